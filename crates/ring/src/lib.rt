@@ -1,0 +1,30 @@
+// Rings: values that are added and multiplied, with a meaning that each call keeps exactly.
+mod kind;
+mod operations;
+mod pair;
+mod wheel;
+mod word;
+
+pub use kind::Ring;
+pub use operations::Operations;
+pub use operations::operations_at;
+pub use operations::pair_of_pairs_product;
+pub use operations::pair_operations;
+pub use operations::wheel_operations;
+pub use operations::word_operations;
+pub use pair::Pair;
+pub use pair::PairClone;
+pub use pair::PairDebug;
+pub use pair::PairEq;
+pub use pair::PairPartialEq;
+pub use pair::PairRing;
+pub use wheel::Wheel;
+pub use wheel::WheelDebug;
+pub use wheel::WheelEq;
+pub use wheel::WheelPartialEq;
+pub use wheel::WheelRing;
+pub use word::Word;
+pub use word::WordDebug;
+pub use word::WordEq;
+pub use word::WordPartialEq;
+pub use word::WordRing;

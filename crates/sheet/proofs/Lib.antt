@@ -1,0 +1,3 @@
+pub mod Carry
+pub mod Rules
+pub mod Determined
