@@ -5,17 +5,20 @@ use mathlib.Core.List.{List, map}
 use mathlib.Core.Logic.{⊎-elim, _≢_}
 use Prim.Native.Nat.{ℕ, _+_, _<_, _≤_}
 use native.Mathlib.Omega.{arith}
+use lib.Dec.{eqb}
 use lib.ListN.{length, getD, set}
 use Rattle.std.specs.declared.option.Option.{Option}
 use Rattle.std.specs.declared.option.Option.the-variants.{Some, None}
 use Rattle.std.specs.Options.{Cases, valueOr}
-use Rattle.std.proofs.shelf.Tests.{cases-lt}
+use Rattle.std.specs.declared.result.Result.the-variants.{Ok, Err}
+use Rattle.std.proofs.shelf.Tests.{cases-lt, cases-bool, eqb-true, cond-false}
 use Rattle.std.proofs.shelf.Lists.{getD-map, getD-set-same, getD-set-other, getD-default, getD-past, length-map}
 use Rattle.ring.specs.Ring.{CommRing}
 use Rattle.sheet.specs.declared.operand.Operand.{Operand}
 use Rattle.sheet.specs.declared.step.Step.{Step}
 use Rattle.sheet.specs.Legal.{legal-step, Legal-steps}
 use Rattle.sheet.specs.Values.{operand-value, step-value, Step-values, Output-values}
+use Rattle.runner.specs.Runs.{run-answer}
 use Rattle.sheet.proofs.Determined.{step-agree}
 
 -- what stands at a place, or a default, as it was read
@@ -27,6 +30,13 @@ read-is xs i (Some x) z (within, read) = read ∙ getD-default xs i x z within
 pub meant-at : {R S : Type 0} (f : R → S) (xs : List R) (i : ℕ) (o : Option R) (z : R) (e : S) → Cases o (length xs ≤ i) (λ x. (i < length xs) × (x ≡ getD xs i x)) → f z ≡ e → f (valueOr o z) ≡ getD (map f xs) i e
 meant-at f xs i None z e past zero = zero ∙ sym (getD-past (map f xs) i e (subst (λ (n : ℕ). n ≤ i) (sym (length-map xs f)) past))
 meant-at f xs i (Some x) z e (within, read) zero = ap f read ∙ sym (getD-map f xs i x e within)
+
+-- a run that is not refused has eight measures
+pub ran-eight : (measures steps cells places : ℕ) (u : Unit {0}) → Ok u ≡ run-answer measures steps cells places → measures ≡ 8
+ran-eight measures steps cells places u e =
+    ⊎-elim (λ t. eqb-true measures 8 t)
+    (λ f. (let z : _≡_ {A = ℕ} 0 1 = cc (e ∙ cond-false (eqb measures 8) _ _ f) in absurd (omega arith)))
+    (cases-bool (eqb measures 8))
 
 module _ {S : Type 0} (c : CommRing S) (numerals : List ℕ) (measures : List S) where
   -- one step more
