@@ -68,6 +68,14 @@ fn put_step(out: &mut [u8], at: usize, step: Step) -> usize
     put_bytes(out, at, &[step.operation.number(), ll, lh, rl, rh])
 }
 
+fn put_numeral(out: &mut [u8], at: usize, n: u16) -> usize
+    requires { ⌜ at + 2 ≤ length (now out) ⌝ }
+    ensures place { λ r. ⌜ r ≡ at + 2 ⌝ }
+    ensures puts { λ r. ⌜ Puts (now (out .entry)) at (word-bytes n) r (now (out .exit)) ⌝ }
+{
+    put_word(out, at, n as u32)
+}
+
 fn put_numerals(out: &mut [u8], start: usize, numerals: &[u16]) -> usize
     requires { ⌜ start + 2 * length (now numerals) ≤ length (now out) ⌝ }
     ensures place { λ r. ⌜ r ≡ start + 2 * length (now (numerals .entry)) ⌝ }
@@ -75,7 +83,7 @@ fn put_numerals(out: &mut [u8], start: usize, numerals: &[u16]) -> usize
 {
     let mut at = start;
     for n in numerals {
-        at = put_word(out, at, *n as u32);
+        at = put_numeral(out, at, *n);
     }
     at
 }
