@@ -43,4 +43,4 @@ pub record Told {S R : Type 0} (c : CommRing S) (meaning : R → S) (shows : R �
 abbrev pub Evaluated : {S R : Type 0} → CommRing S → (R → S) → (R → List ℕ) → List ℕ → List R → Outcome → Type 0
 Evaluated c meaning shows file measures (Report text) = Told c meaning shows file measures (string-bytes text)
 Evaluated c meaning shows file measures (Refused why place) = Refused-at why place file 2000
-Evaluated c meaning shows file measures (Stopped why) = (why ≡ Measures) × (length measures ≡ 8 → ⊥)
+Evaluated c meaning shows file measures (Stopped why) = (s : Sheet) × (sheet-bytes s ≡ file) × (why ≡ Measures) × (length measures ≡ 8 → ⊥)

@@ -28,3 +28,10 @@ returns-in-Outputs g c =
       worth = ran;
       printed = c .in-Continue-report .ensures tt ∙ ap (λ (xs : List (g .R .Denot)). report-text (sheet-steps sheet) (sheet-outputs sheet) (map (g .R·Spelled .shows) xs)) (c .deref .ensures .value);
     }
+
+pub returns : need.returns
+returns g c =
+    let m = g .R·Ring in
+    let sheet = c .in-Ok .sheet in
+    let stopped = subst (λ (v : Values (g .R .Denot)). Ran-values (m .ring) (m .meaning) sheet (c .args .measures .now) v) (c .in-NotRun .is) (c .in-Continue-values .ensures tt) in
+    (sheet, c .in-Ok .ensures tt .answer .0, stopped .0, stopped .1)
