@@ -1,0 +1,5 @@
+pub mod Sums
+pub mod Holds
+mod Letters
+mod Rows
+pub mod Signs

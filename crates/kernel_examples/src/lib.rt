@@ -1,0 +1,3 @@
+// Kernels worked out by hand, as tests.
+#[cfg(test)]
+mod tests;

@@ -1,0 +1,9 @@
+mod Places
+mod Lows
+mod Letters
+mod Beginnings
+mod Overlays
+mod Totals
+mod Growth
+mod Uniques
+mod Joins
