@@ -7,9 +7,6 @@ use Prim.Native.Nat.{ℕ, _+_, _<_, _≤_}
 use native.Mathlib.Omega.{arith}
 use lib.Dec.{eqb}
 use lib.ListN.{length, getD, set}
-use Rattle.std.specs.declared.option.Option.{Option}
-use Rattle.std.specs.declared.option.Option.the-variants.{Some, None}
-use Rattle.std.specs.Options.{Cases, valueOr}
 use Rattle.std.specs.declared.result.Result.the-variants.{Ok, Err}
 use Rattle.std.proofs.shelf.Tests.{cases-lt, cases-bool, eqb-true, cond-false}
 use Rattle.std.proofs.shelf.Lists.{getD-map, getD-set-same, getD-set-other, getD-default, getD-past, length-map}
@@ -21,15 +18,13 @@ use Rattle.sheet.specs.Values.{operand-value, step-value, Step-values, Output-v
 use Rattle.runner.specs.Runs.{run-answer}
 use Rattle.sheet.proofs.Determined.{step-agree}
 
--- what stands at a place, or a default, as it was read
-pub read-is : {X : Type 0} (xs : List X) (i : ℕ) (o : Option X) (z : X) → Cases o (length xs ≤ i) (λ x. (i < length xs) × (x ≡ getD xs i x)) → valueOr o z ≡ getD xs i z
-read-is xs i None z past = sym (getD-past xs i z past)
-read-is xs i (Some x) z (within, read) = read ∙ getD-default xs i x z within
-
--- what it means
-pub meant-at : {R S : Type 0} (f : R → S) (xs : List R) (i : ℕ) (o : Option R) (z : R) (e : S) → Cases o (length xs ≤ i) (λ x. (i < length xs) × (x ≡ getD xs i x)) → f z ≡ e → f (valueOr o z) ≡ getD (map f xs) i e
-meant-at f xs i None z e past zero = zero ∙ sym (getD-past (map f xs) i e (subst (λ (n : ℕ). n ≤ i) (sym (length-map xs f)) past))
-meant-at f xs i (Some x) z e (within, read) zero = ap f read ∙ sym (getD-map f xs i x e within)
+-- what a value means that stands at a place, or that stands for one that is not there
+pub meant-at : {R S : Type 0} (f : R → S) (xs : List R) (i : ℕ) (z : R) (e : S) → f z ≡ e → f (getD xs i z) ≡ getD (map f xs) i e
+meant-at f xs i z e zero =
+    ⊎-elim
+    (λ l. sym (getD-map f xs i z e l))
+    (λ l. ap f (getD-past xs i z l) ∙ zero ∙ sym (getD-past (map f xs) i e (subst (λ (n : ℕ). n ≤ i) (sym (length-map xs f)) l)))
+    (cases-lt i (length xs))
 
 -- a run that is not refused has eight measures
 pub ran-eight : (measures steps cells places : ℕ) (u : Unit {0}) → Ok u ≡ run-answer measures steps cells places → measures ≡ 8

@@ -10,6 +10,14 @@ pub struct Bench<'a, R> {
     cells: &'a mut [R],
 }
 
+// Puts a value into a cell that is there.
+pub(crate) fn write_cell<R: Copy>(cells: &mut [R], i: usize, value: R)
+    requires { ⌜ i < length (now cells) ⌝ }
+    ensures { λ _. ⌜ now (cells .exit) ≡ set (now (cells .entry)) i value ⌝ }
+{
+    cells[i] = value;
+}
+
 fn put_cell<R: Copy>(cells: &mut [R], i: usize, value: R) -> bool
     ensures told { λ r. ⌜ r ≡ ltb i (length (now (cells .entry))) ⌝ }
     ensures after { λ _. ⌜ now (cells .exit) ≡ set (now (cells .entry)) i value ⌝ }
@@ -17,12 +25,11 @@ fn put_cell<R: Copy>(cells: &mut [R], i: usize, value: R) -> bool
     if i >= cells.len() {
         return false;
     }
-    cells[i] = value;
+    write_cell(cells, i, value);
     true
 }
 
-// The value in a cell, where there is one.
-pub(crate) fn read_cell<R: Copy>(cells: &[R], i: usize) -> Option<R>
+fn read_cell<R: Copy>(cells: &[R], i: usize) -> Option<R>
     ensures { λ r. ⌜ BySome r (length (now (cells .entry)) ≤ i) (λ x. (i < length (now (cells .entry))) × (x ≡ getD (now (cells .entry)) i x)) ⌝ }
 {
     if i < cells.len() {
@@ -30,6 +37,13 @@ pub(crate) fn read_cell<R: Copy>(cells: &[R], i: usize) -> Option<R>
     } else {
         None
     }
+}
+
+// The value in a cell, or another where there is no such cell.
+pub(crate) fn cell_or<R: Copy>(cells: &[R], i: usize, other: R) -> R
+    ensures { λ r. ⌜ r ≡ getD (now (cells .entry)) i other ⌝ }
+{
+    if i < cells.len() { cells[i] } else { other }
 }
 
 impl<'a, R: Copy> Bench<'a, R> {
@@ -58,5 +72,20 @@ impl<'a, R: Copy> Bench<'a, R> {
         ensures { λ r. ⌜ BySome r (length (now (now (self .entry) .cells)) ≤ i) (λ x. (i < length (now (now (self .entry) .cells))) × (x ≡ getD (now (now (self .entry) .cells)) i x)) ⌝ }
     {
         read_cell(self.cells, i)
+    }
+
+    // The value in a cell, or another where there is no such cell.
+    pub(crate) fn read_or(&self, i: usize, other: R) -> R
+        ensures { λ r. ⌜ r ≡ getD (now (now (self .entry) .cells)) i other ⌝ }
+    {
+        cell_or(self.cells, i, other)
+    }
+
+    // Puts a value into a cell that is there.
+    pub(crate) fn write(&mut self, i: usize, value: R)
+        requires { ⌜ i < length (now (now self .cells)) ⌝ }
+        ensures { λ _. ⌜ now (now (self .exit) .cells) ≡ set (now (now (self .entry) .cells)) i value ⌝ }
+    {
+        write_cell(self.cells, i, value)
     }
 }

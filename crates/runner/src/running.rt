@@ -1,13 +1,14 @@
 ghost use mathlib.Core.Path.{_≡_};
 ghost use mathlib.Core.List.{map};
-ghost use Prim.Native.Nat.{ℕ, _<_, _≤_};
-ghost use lib.ListN.{length, drop, set};
+ghost use Prim.Native.Nat.{ℕ, _≤_};
+ghost use lib.ListN.{length, drop};
 ghost use Rattle.std.specs.declared.result.Result.the-variants.{Ok, Err};
 ghost use Rattle.sheet.specs.Legal.{Legal-steps};
 ghost use Rattle.sheet.specs.Parts.{sheet-steps};
 ghost use Rattle.sheet.specs.Values.{Step-values, Output-values};
 ghost use Rattle.runner.specs.Runs.{Ran, run-answer};
 use crate::bench::Bench;
+use crate::bench::write_cell;
 use crate::refusal::RunRefusal;
 use crate::values::operand_value;
 use crate::values::step_value;
@@ -25,15 +26,8 @@ fn run_steps<R: Ring>(steps: &[Step], numerals: &[u16], measures: &[R], bench: &
 {
     for (n, step) in steps.iter().enumerate() {
         let value = step_value(numerals, measures, bench, *step);
-        bench.put(n, value);
+        bench.write(n, value);
     }
-}
-
-fn put_output<R: Copy>(outputs: &mut [R], k: usize, value: R)
-    requires { ⌜ k < length (now outputs) ⌝ }
-    ensures { λ _. ⌜ now (outputs .exit) ≡ set (now (outputs .entry)) k value ⌝ }
-{
-    outputs[k] = value;
 }
 
 // Each output's value, in its place.
@@ -49,7 +43,7 @@ fn run_outputs<R: Ring>(
 {
     for (k, operand) in operands.iter().enumerate() {
         let value = operand_value(numerals, measures, bench, *operand);
-        put_output(outputs, k, value);
+        write_cell(outputs, k, value);
     }
 }
 

@@ -3,7 +3,7 @@ ghost use mathlib.Core.List.{map};
 ghost use lib.ListN.{length, getD};
 ghost use Rattle.sheet.specs.Values.{operand-value, step-value};
 use crate::bench::Bench;
-use crate::bench::read_cell;
+use crate::bench::cell_or;
 use ring::Ring;
 use sheet::Operand;
 use sheet::Operation;
@@ -19,11 +19,11 @@ pub(crate) fn operand_value<R: Ring>(
     ensures { λ r. ⌜ meaning r ≡ operand-value ring (now (numerals .entry)) (map meaning (now (measures .entry))) (map meaning (now (now (bench .entry) .cells))) operand ⌝ }
 {
     match operand {
-        Operand::Measure(i) => read_cell(measures, i as usize).unwrap_or(R::zero()),
-        Operand::Numeral(i) => R::numeral(read_cell(numerals, i as usize).unwrap_or(0)),
+        Operand::Measure(i) => cell_or(measures, i as usize, R::zero()),
+        Operand::Numeral(i) => R::numeral(cell_or(numerals, i as usize, 0)),
         Operand::One => R::one(),
         Operand::Zero => R::zero(),
-        Operand::ResultOf(n) => bench.read(n as usize).unwrap_or(R::zero()),
+        Operand::ResultOf(n) => bench.read_or(n as usize, R::zero()),
     }
 }
 

@@ -22,5 +22,5 @@ loop-k-again g c =
     let among : k < length operands = c .loop-k-test .taken in
     let within : k < length values = search needs in
     let here : k < length (map f values) = simp length-map within in
-    subst (λ (xs : List (m .Meaning)). Output-values (m .ring) numerals (map f (c .args .measures .now)) cells operands (k + 1) xs) (sym (ap (map f) (c .put-output .ensures) ∙ map-set f values k v))
+    subst (λ (xs : List (m .Meaning)). Output-values (m .ring) numerals (map f (c .args .measures .now)) cells operands (k + 1) xs) (sym (ap (map f) (c .write-cell .ensures) ∙ map-set f values k v))
     (outputs-more (m .ring) numerals (map f (c .args .measures .now)) k cells (map f values) operands _ (f v) here among (c .operand-value-value .ensures) (c .loop-k .inv))

@@ -22,10 +22,10 @@ loop-n-again g c =
     let room = c .pre .room in
     let kept = c .loop-n .inv .2 in
     let within : n < length cells = omega arith in
-    let e : map f (c .put .last .self .cells .now) ≡ set (map f cells) n (f v) = ap (map f) (c .put .ensures .after) ∙ map-set f cells n v in
+    let e : map f (c .write .last .self .cells .now) ≡ set (map f cells) n (f v) = ap (map f) (c .write .ensures) ∙ map-set f cells n v in
     let here : n < length (map f cells) = simp length-map within in (
       subst (λ (xs : List (m .Meaning)). Step-values (m .ring) numerals (map f (c .args .measures .now)) steps (n + 1) xs) (sym e)
           (values-more (m .ring) numerals (map f (c .args .measures .now)) (length numerals) n steps (map f cells) _ (f v) (c .pre .legal) under here (c .step-value-value .ensures) (c .loop-n .inv .0)),
-      ap (drop (length steps)) (c .put .ensures .after) ∙ drop-set-lt (length steps) cells n v under ∙ c .loop-n .inv .1,
-      ap length (c .put .ensures .after) ∙ length-set cells n v ∙ c .loop-n .inv .2,
+      ap (drop (length steps)) (c .write .ensures) ∙ drop-set-lt (length steps) cells n v under ∙ c .loop-n .inv .1,
+      ap length (c .write .ensures) ∙ length-set cells n v ∙ c .loop-n .inv .2,
     )
