@@ -1,5 +1,5 @@
 -- Laws of sums over lists and over numbers.
-use mathlib.Core.Path.{_≡_, refl, sym, ap, ap₂, _∙_}
+use mathlib.Core.Path.{_≡_, refl, sym, ap, ap₂, subst, _∙_}
 use mathlib.Core.Bool.{Bool, true, false, cond, not}
 use mathlib.Core.List.{List, [], _∷_, _++_, map}
 use mathlib.Core.Logic.{_⊎_, inl, inr, ⊎-elim}
@@ -194,3 +194,13 @@ pub upTo-part : (n : ℕ) (f : ℕ → ℕ) (k : ℕ) → k < n → f k ≤ upTo
 unfolding upTo
 upTo-part zero f k h = absurd (omega arith)
 upTo-part (suc n) f k h = ⊎-elim (λ e. omega (arith, ap f e)) (λ e. omega (arith, upTo-part n f k (omega arith))) (cases-eq k n)
+
+-- no number larger and one smaller: the sum is smaller
+pub upTo-lt : (n : ℕ) (f g : ℕ → ℕ) → ((k : ℕ) → k < n → f k ≤ g k) → (m : ℕ) → m < n → f m < g m → upTo counting n f < upTo counting n g
+unfolding upTo
+upTo-lt zero f g h m lt s = absurd (omega arith)
+upTo-lt (suc n) f g h m lt s =
+    elim (cases-eq m n) [
+      | inl e ↦ let t : f n < g n = subst (λ k. f k < g k) e s in omega (arith, upTo-le n f g (λ k l. h k (omega arith)), t)
+      | inr ne ↦ omega (arith, upTo-lt n f g (λ k l. h k (omega arith)) m (omega arith) s, h n (omega arith))
+    ]

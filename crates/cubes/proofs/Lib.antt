@@ -1,4 +1,3 @@
-pub mod Sums
 pub mod Holds
 mod Letters
 mod Rows

@@ -7,7 +7,7 @@ use Rattle.std.proofs.shelf.Tests.{cases-bool, cond-true, cond-false}
 use Rattle.algebra.specs.Cubes.{letters, Powers}
 use Rattle.algebra.specs.Rows.{degree}
 use Rattle.cubes.specs.Rows.{most-rows}
-use Rattle.cubes.proofs.Sums.{sum-le, sum-lt}
+use Rattle.algebra.proofs.Sums.{upTo-le, upTo-lt}
 use Rattle.kernels.specs.declared.rest.Rest.{Rest}
 use Rattle.kernels.specs.Rests.{Live, row, slot}
 use Rattle.kernels.specs.Search.{Leads, total}
@@ -28,7 +28,7 @@ module _ (q : Rest) (d : Powers) (j : ℕ) (lt : j < letters) (r : Rest) (c : Po
               cond-true (slot r k .used) (degree (row r k)) 0 u,
               cond-true (slot q k .used) (degree (row q k)) 0 (leads .rows k (h, u) .0 .1),
             )
-            (sum-le letters (row r k) (row q k) (less k (h, u)))
+            (upTo-le letters (row r k) (row q k) (less k (h, u)))
         | inr u ↦ rw (cond-false (slot r k .used) (degree (row r k)) 0 u) (omega arith)
       ]
 
@@ -39,8 +39,8 @@ module _ (q : Rest) (d : Powers) (j : ℕ) (lt : j < letters) (r : Rest) (c : Po
         cond-true (slot r k .used) (degree (row r k)) 0 (w .1),
         cond-true (slot q k .used) (degree (row q k)) 0 (leads .rows k w .0 .1),
       )
-      (sum-lt letters (row r k) (row q k) (less k w) j lt (omega (arith, leads .rows k w .1 j lt, leads .more)))
+      (upTo-lt letters (row r k) (row q k) (less k w) j lt (omega (arith, leads .rows k w .1 j lt, leads .more)))
 
   pub falls : total r < total q
   unfolding of
-  falls = let t = leads .own .two in sum-lt most-rows (of r) (of q) of-le (t .0) (t .3 .0 .0) (of-lt (t .0) (t .3 .0))
+  falls = let t = leads .own .two in upTo-lt most-rows (of r) (of q) of-le (t .0) (t .3 .0 .0) (of-lt (t .0) (t .3 .0))
