@@ -1,0 +1,13 @@
+pub mod Parts
+pub mod Places
+pub mod Factors
+pub mod Savings
+pub mod Takings
+pub mod Shares
+pub mod Books
+pub mod Chains
+pub mod Tidies
+pub mod Reached
+pub mod Firsts
+pub mod Orders
+pub mod Worked

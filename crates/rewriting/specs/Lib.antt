@@ -1,0 +1,10 @@
+pub mod Styles
+pub mod Factor
+pub mod Taking
+pub mod Share
+pub mod Presses
+pub mod Closed
+pub mod Order
+pub mod Book
+pub mod Figures
+pub mod Promises
