@@ -1,4 +1,6 @@
 // The column set that saves most among the kernels of a style.
+#![tactic(auto)]
+
 mod card;
 mod choice;
 mod column;

@@ -1,4 +1,6 @@
 // Cubes, rows and expressions: what polynomials are made of.
+#![tactic(auto)]
+
 mod cube;
 mod expression;
 mod row;

@@ -1,4 +1,6 @@
 // The best column set of the kernels of a table.
+#![tactic(auto)]
+
 mod cards;
 mod entry;
 mod names;

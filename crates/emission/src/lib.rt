@@ -1,5 +1,7 @@
 // The steps of a style in its making order, as theory: what they are worth, that they keep the rules of a sheet, and how many
 // there are. Each function does nothing: its contract is a theorem.
+#![tactic(auto)]
+
 ghost use Rattle.emission.specs.Promises.{EmitValues, EmitLegal, EmitCounts};
 
 use ring::Ring;

@@ -1,4 +1,6 @@
 // The steps of a style's table, written into a buffer.
+#![tactic(auto)]
+
 mod chain;
 mod counts;
 mod expressions;

@@ -1,3 +1,5 @@
 // Kernels worked out by hand, as tests.
+#![tactic(auto)]
+
 #[cfg(test)]
 mod tests;

@@ -1,4 +1,6 @@
 // The kernels of an expression: its quotients by a cube that no letter divides any more.
+#![tactic(auto)]
+
 mod kernel;
 mod list;
 mod rest;

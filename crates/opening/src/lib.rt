@@ -1,4 +1,6 @@
 // The open style, which takes terms.
+#![tactic(auto)]
+
 mod checks;
 mod growing;
 mod placing;

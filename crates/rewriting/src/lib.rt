@@ -1,5 +1,7 @@
 // Styles and their rewritings, factor and share, as theory: what they keep and what they save, what holds of every style
 // that they lead to, and the style that entered terms make. Each function does nothing: its contract is a theorem.
+#![tactic(auto)]
+
 mod book;
 mod choice;
 mod closed;

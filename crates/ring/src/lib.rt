@@ -1,4 +1,6 @@
 // Rings: values that are added and multiplied, with a meaning that each call keeps exactly.
+#![tactic(auto)]
+
 mod kind;
 mod operations;
 mod pair;

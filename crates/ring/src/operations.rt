@@ -19,12 +19,12 @@ pub struct Operations<R> {
 
 // The six calls at x, y and n, over any kind.
 pub fn operations_at<R: Ring>(x: R, y: R, n: u16) -> Operations<R>
-    ensures zero { meaning result.zero ≡ ring.zero }
-    ensures one { meaning result.one ≡ ring.one }
-    ensures numeral { meaning result.numeral ≡ ones_sum ring n }
-    ensures sum { meaning result.sum ≡ ring.plus (meaning x) (meaning y) }
-    ensures product { meaning result.product ≡ ring.times (meaning x) (meaning y) }
-    ensures opposite { meaning result.opposite ≡ ring.opposite (meaning x) }
+    ensures zero { R.meaning result.zero ≡ R.ring.zero }
+    ensures one { R.meaning result.one ≡ R.ring.one }
+    ensures numeral { R.meaning result.numeral ≡ ones_sum R.ring n }
+    ensures sum { R.meaning result.sum ≡ R.ring.plus (R.meaning x) (R.meaning y) }
+    ensures product { R.meaning result.product ≡ R.ring.times (R.meaning x) (R.meaning y) }
+    ensures opposite { R.meaning result.opposite ≡ R.ring.opposite (R.meaning x) }
 {
     Operations {
         zero: R::zero(),

@@ -14,7 +14,7 @@ pub struct Pair<R> {
 impl<R: Ring> Pair<R> {
     // a value that does not change
     fn constant(value: R) -> Pair<R>
-        ensures { pair_meaning meaning result ≡ (meaning value, ring.zero) }
+        ensures { pair_meaning R.meaning result ≡ (R.meaning value, R.ring.zero) }
     {
         Pair {
             value,

@@ -1,4 +1,6 @@
 // The calls on a closed style, as rules: what each answers and what it leaves, and what follows for every course of calls.
+#![tactic(auto)]
+
 mod answers;
 mod refusals;
 

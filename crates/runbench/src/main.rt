@@ -1,4 +1,6 @@
 // runbench FILE KIND REPEATS: runs a sheet file many times over and prints a checksum of the outputs.
+#![tactic(auto)]
+
 use anyhow::anyhow;
 use ring::{Pair, Ring, Word};
 use runner::{Bench, run};

@@ -1,3 +1,5 @@
+#![tactic(auto)]
+
 mod bench;
 mod refusal;
 mod running;

@@ -14,7 +14,7 @@ use sheet::{Operand, Sheet, Step};
 fn run_steps<R: Ring>(steps: &[Step], numerals: &[u16], measures: &[R], bench: &mut Bench<R>)
     requires legal { LegalSteps (length numerals.now) (length steps.now) steps.now }
     requires room { length steps.now ≤ length bench.old.cells.now }
-    ensures steps { StepValues ring numerals.now (map meaning measures.now) steps.now (length steps.now) (map meaning bench.new.cells.now) }
+    ensures steps { StepValues R.ring numerals.now (map R.meaning measures.now) steps.now (length steps.now) (map R.meaning bench.new.cells.now) }
     ensures behind { drop (length steps.now) bench.new.cells.now ≡ drop (length steps.now) bench.old.cells.now }
 {
     for (n, step) in steps.iter().enumerate() {
@@ -32,7 +32,7 @@ fn run_outputs<R: Ring>(
     outputs: &mut [R],
 )
     requires { length operands.now ≤ length outputs.old }
-    ensures { OutputValues ring numerals.now (map meaning measures.now) (map meaning bench.now.cells.now) operands.now (length operands.now) (map meaning outputs.new) }
+    ensures { OutputValues R.ring numerals.now (map R.meaning measures.now) (map R.meaning bench.now.cells.now) operands.now (length operands.now) (map R.meaning outputs.new) }
 {
     for (k, operand) in operands.iter().enumerate() {
         let value = operand_value(numerals, measures, bench, *operand);
@@ -48,7 +48,7 @@ pub fn run<R: Ring>(
     outputs: &mut [R],
 ) -> Result<(), RunRefusal>
     ensures answer { result ≡ run_answer (length measures.now) (length (sheet_steps sheet.now)) (length bench.old.cells.now) (length outputs.old) }
-    ensures ran { elim result [ Ok _ ↦ Ran ring meaning sheet.now measures.now bench.old.cells.now bench.new.cells.now outputs.new | Err _ ↦ (bench.new.cells.now ≡ bench.old.cells.now) × (outputs.new ≡ outputs.old) ] }
+    ensures ran { elim result [ Ok _ ↦ Ran R.ring R.meaning sheet.now measures.now bench.old.cells.now bench.new.cells.now outputs.new | Err _ ↦ (bench.new.cells.now ≡ bench.old.cells.now) × (outputs.new ≡ outputs.old) ] }
 {
     let steps = sheet.steps();
     if measures.len() != 8 {

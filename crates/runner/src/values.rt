@@ -12,7 +12,7 @@ pub(crate) fn operand_value<R: Ring>(
     bench: &Bench<R>,
     operand: Operand,
 ) -> R
-    ensures { meaning result ≡ operand_value ring numerals.now (map meaning measures.now) (map meaning bench.now.cells.now) operand }
+    ensures { R.meaning result ≡ operand_value R.ring numerals.now (map R.meaning measures.now) (map R.meaning bench.now.cells.now) operand }
 {
     match operand {
         Operand::Measure(i) => cell_or(measures, i as usize, R::zero()),
@@ -30,7 +30,7 @@ pub(crate) fn step_value<R: Ring>(
     bench: &Bench<R>,
     step: Step,
 ) -> R
-    ensures { meaning result ≡ step_value ring numerals.now (map meaning measures.now) (map meaning bench.now.cells.now) step }
+    ensures { R.meaning result ≡ step_value R.ring numerals.now (map R.meaning measures.now) (map R.meaning bench.now.cells.now) step }
 {
     let left = operand_value(numerals, measures, bench, step.left);
     let right = operand_value(numerals, measures, bench, step.right);

@@ -1,4 +1,6 @@
 // Operations, operands, steps and sheets, and what a sheet is worth.
+#![tactic(auto)]
+
 mod counts;
 mod numerals;
 mod operand;

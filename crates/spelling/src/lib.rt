@@ -1,4 +1,6 @@
 // How the values of the ring kinds are written on the command line, and how they are printed.
+#![tactic(auto)]
+
 ghost use Rattle.std.specs.Prelude.{◌≡◌, ℕ, ◌^◌, List, ◌++◌, string_bytes, decimal, MatchOption, MatchResult};
 ghost use Rattle.spelling.specs.Texts.{Signed, Paired, spaced};
 ghost use Rattle.spelling.specs.Spellings.{signed_one, paired_one};

@@ -1,4 +1,6 @@
 // steprun FILE KIND M0 .. M7: runs a sheet file at eight measures and prints the value of each formula.
+#![tactic(auto)]
+
 use anyhow::anyhow;
 use std::{env, fs};
 use tablet::{Answer, Kind, Outcome, answer_for};

@@ -1,4 +1,6 @@
 // The closed style: kernels, factor, share, settle and emit, worked on in place.
+#![tactic(auto)]
+
 mod closed;
 mod emitting;
 mod factoring;

@@ -1,4 +1,6 @@
 // The row table of a style: its expressions, its numerals and its making order.
+#![tactic(auto)]
+
 mod counts;
 mod parts;
 mod rows;

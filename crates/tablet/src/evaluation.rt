@@ -41,7 +41,7 @@ pub fn run_sheet<R: Ring>(
     sheet: &Sheet,
     measures: &[R],
 ) -> Result<Values<R>, AllocError>
-    ensures { IfOk result (λ v. RanValues ring meaning sheet.now measures.now v) }
+    ensures { IfOk result (λ v. RanValues R.ring R.meaning sheet.now measures.now v) }
 {
     let mut cells = places(heap, sheet.steps().len())?;
     let mut outputs = places(heap, 16)?;

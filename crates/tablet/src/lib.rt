@@ -1,4 +1,6 @@
 // A sheet file, read, run at given measures over a kind of number, and its values told as text.
+#![tactic(auto)]
+
 mod answering;
 mod evaluation;
 mod kind;

@@ -1,4 +1,6 @@
 // A worked sheet, tried: each refusal is reached, and what it leaves is compared.
+#![tactic(auto)]
+
 #[cfg(test)]
 mod files;
 #[cfg(test)]

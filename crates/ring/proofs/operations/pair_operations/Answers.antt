@@ -20,8 +20,8 @@ rate e = ap (λ (t : Both). t.1) e
 
 pub returns : goal.returns
 returns c =
-    let r = c.operations-at.result in
-    let e = c.operations-at.ensures in
+    let r = c.operations_at.result in
+    let e = c.operations_at.ensures in
     let n = c.args.n in
     let v = c.args.x.value.value in
     let w = c.args.x.rate.value in

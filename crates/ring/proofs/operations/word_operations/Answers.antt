@@ -8,8 +8,8 @@ use Rattle.ring.proofs.operations.word_operations.Goals as goal
 
 pub returns : goal.returns
 returns c =
-    let r = c.operations-at.result in
-    let e = c.operations-at.ensures in
+    let r = c.operations_at.result in
+    let e = c.operations_at.ensures in
     let n = c.args.n in
     let x = c.args.x.value in
     let y = c.args.y.value in

@@ -1,5 +1,4 @@
 use mathlib.Core.Path.{sym, ap, ◌∙◌}
-use Prim.Native.Nat.{◌%◌}
 use native.Mathlib.Nat.{mod-mod}
 use lib.Dec.{lit<}
 use Rattle.ring.specs.Residue.{residue}
