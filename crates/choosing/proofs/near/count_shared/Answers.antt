@@ -8,16 +8,16 @@ use Rattle.choosing.proofs.near.count_shared.Goals.{then-is-some, else-is-some}
 
 pub loop-c-preserved : goal.loop-c-preserved
 loop-c-preserved c =
-    elim c.if-is-some.branch [
-      | then-is-some w ↦
+    elim c.if-is_some.branch [
+      | then-is_some w ↦
           let there : has c.args.kernel.now (get_or c.args.columns.now c.loop-c.c-index blank) ≡ true =
-          sym (w.if-is-some.ensures ∙ ap is_some c.find.ensures) in (
+          sym (w.if-is_some.ensures ∙ ap is_some c.find.ensures) in (
             (omega (arith, w.n-is, count_by_more_yes (has c.args.kernel.now) c.args.columns.now c.loop-c.c-index blank c.loop-c-test.true there, c.loop-c.invariant.0)),
             (omega (arith, w.n-is, c.loop-c.invariant.1)),
           )
-      | else-is-some w ↦
+      | else-is_some w ↦
           let no_such : has c.args.kernel.now (get_or c.args.columns.now c.loop-c.c-index blank) ≡ false =
-          sym (w.if-is-some.ensures ∙ ap is_some c.find.ensures) in (
+          sym (w.if-is_some.ensures ∙ ap is_some c.find.ensures) in (
             (omega (arith, w.n-is, count_by_more_no (has c.args.kernel.now) c.args.columns.now c.loop-c.c-index blank c.loop-c-test.true no_such, c.loop-c.invariant.0)),
             (omega (arith, w.n-is, c.loop-c.invariant.1)),
           )

@@ -10,15 +10,15 @@ use Rattle.choosing.proofs.near.gather.Goals.{then-count-shared-ge-SHARED+in-ok-
 pub loop-card-preserved : goal.loop-card-preserved
 loop-card-preserved c =
     let cs = c.args.columns.now in
-    let n_is : c.count-shared.result ≡ shared (listed c.card-item.result.columns) cs = c.count-shared.ensures ∙ ap (λ xs. shared xs cs) c.as-slice.ensures.is in
-    elim c.if-count-shared-ge-SHARED.branch [
-      | then-count-shared-ge-SHARED+in-ok-push w ↦
-          let is_near : near_to cs c.card-item.result ≡ true = le-leb 2 _ (omega (arith, n_is, w.if-count-shared-ge-SHARED.true)) in
+    let n_is : c.count_shared.result ≡ shared (listed c.card-item.result.columns) cs = c.count_shared.ensures ∙ ap (λ xs. shared xs cs) c.as_slice.ensures.is in
+    elim c.if-count_shared-ge-SHARED.branch [
+      | then-count_shared-ge-SHARED+in-ok-push w ↦
+          let is_near : near_to cs c.card-item.result ≡ true = le-leb 2 _ (omega (arith, n_is, w.if-count_shared-ge-SHARED.true)) in
           ap vec_items w.near-is ∙ w.push.ensures.items
           ∙ cond-true _ _ _ (ap is_ok w.in-ok-push.was)
           ∙ kept_yes (near_to cs) _ _ _ _ c.loop-card-test.true c.card-item.is c.loop-card.invariant is_near
-      | else-count-shared-ge-SHARED w ↦
-          let is_far : near_to cs c.card-item.result ≡ false = lt-leb 2 _ (omega (arith, n_is, w.if-count-shared-ge-SHARED.false)) in
+      | else-count_shared-ge-SHARED w ↦
+          let is_far : near_to cs c.card-item.result ≡ false = lt-leb 2 _ (omega (arith, n_is, w.if-count_shared-ge-SHARED.false)) in
           ap vec_items w.near-is ∙ kept_no (near_to cs) _ _ _ _ c.loop-card-test.true c.card-item.is c.loop-card.invariant is_far
     ]
 

@@ -14,11 +14,11 @@ loop-set-preserved c =
           (
           so_far_better _ _ _ _ w.weigh.result _ _
           (
-          tells_from _ _ _ _ _ _ c.requires.within c.as-slice-columns.ensures.is c.as-slice-columns.ensures.few c.pick-picked.ensures _
-          w.as-slice.ensures.is c.loop-set-test.true two _
+          tells_from _ _ _ _ _ _ c.requires.within c.as_slice-columns.ensures.is c.as_slice-columns.ensures.few c.pick-picked.ensures _
+          w.as_slice.ensures.is c.loop-set-test.true two _
           (
-          near_taken _ _ _ _ _ _ c.requires.within c.as-slice-columns.ensures.is c.as-slice-columns.ensures.few c.pick-picked.ensures _
-          w.as-slice.ensures.is two _ (c.as-slice-takers.ensures.value ∙ c.in-ok-near.ensures)
+          near_taken _ _ _ _ _ _ c.requires.within c.as_slice-columns.ensures.is c.as_slice-columns.ensures.few c.pick-picked.ensures _
+          w.as_slice.ensures.is two _ (c.as_slice-takers.ensures.value ∙ c.in-ok-near.ensures)
           )
           w.weigh.result w.weigh.ensures.at w.weigh.ensures.weighed
           )
@@ -29,7 +29,7 @@ loop-set-preserved c =
           subst (SoFar c.args.weight c.args.cards.now c.args.kernel (c.loop-set.set + 1)) (sym w.best-is)
           (
           so_far_skip _ _ _ _
-          (candidate_not _ _ _ _ _ _ c.requires.within c.as-slice-columns.ensures.is c.as-slice-columns.ensures.few c.pick-picked.ensures few)
+          (candidate_not _ _ _ _ _ _ c.requires.within c.as_slice-columns.ensures.is c.as_slice-columns.ensures.few c.pick-picked.ensures few)
           _ c.loop-set.invariant
           )
     ]
@@ -37,5 +37,5 @@ loop-set-preserved c =
 pub returns : goal.returns
 returns c =
     so_far_next _ _ _ _
-    (omega (arith, end_at _ _ _ _ c.requires.within c.as-slice-columns.ensures.is c.as-slice-columns.ensures.few, c.loop-set-test.false))
+    (omega (arith, end_at _ _ _ _ c.requires.within c.as_slice-columns.ensures.is c.as_slice-columns.ensures.few, c.loop-set-test.false))
     _ c.loop-set.invariant

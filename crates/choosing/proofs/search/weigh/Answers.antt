@@ -4,10 +4,10 @@ use Rattle.choosing.proofs.search.weigh.Goals as goal
 
 pub invariant-of-result : goal.invariant-of-result
 invariant-of-result c =
-    let columns : c.saturating-sub-3.result < 8 = omega arith in (
+    let columns : c.saturating_sub-3.result < 8 = omega arith in (
       (omega arith),
       (
-        (omega (arith, mul-lt c.saturating-sub-2.result c.saturating-sub-3.result (2 ^ 64) 8 c.saturating-sub-2.type-inv columns)),
+        (omega (arith, mul-lt c.saturating_sub-2.result c.saturating_sub-3.result (2 ^ 64) 8 c.saturating_sub-2.type-inv columns)),
         tt,
       ),
     )

@@ -7,7 +7,7 @@ use Rattle.choosing.proofs.tally.multiplications.Goals as goal
 
 pub loop-c-preserved : goal.loop-c-preserved
 loop-c-preserved c = (
-  (omega (arith, sum_by_more (λ x. muls (c.args.degree + x.degree)) c.args.set.now c.loop-c.c-index blank c.loop-c-test.true, c.saturating-sub-n.ensures, c.loop-c.invariant.0)),
+  (omega (arith, sum_by_more (λ x. muls (c.args.degree + x.degree)) c.args.set.now c.loop-c.c-index blank c.loop-c-test.true, c.saturating_sub-n.ensures, c.loop-c.invariant.0)),
   (omega arith),
 )
 

@@ -6,7 +6,7 @@ use Rattle.choosing.proofs.walk.cover_set.Goals as goal
 
 pub loop-c-preserved : goal.loop-c-preserved
 loop-c-preserved c =
-    ap (λ o. cover o c.args.columns.now (drop (c.loop-c.c-index + 1) c.args.set.now)) c.cover-one.ensures
+    ap (λ o. cover o c.args.columns.now (drop (c.loop-c.c-index + 1) c.args.set.now)) c.cover_one.ensures
     ∙ sym (cover_more _ _ c.loop-c-test.true _ _)
     ∙ c.loop-c.invariant
 

@@ -13,6 +13,6 @@ returns c =
     let dealt = c.in-ok-cards.ensures in
     let ks = as_kernels c.args.kernels.now in
     IfOk-weaker c.choose.result _ _
-    (λ o h. by_rows dealt.names (style_of t) (few_terms t) (distinct_terms t) ks c.as-slice.result.now
-    (subst (λ (xs : List Card). Deals dealt.names (style_of t) ks xs) (sym c.as-slice.ensures.value) dealt.deals) c.args.weight o h)
+    (λ o h. by_rows dealt.names (style_of t) (few_terms t) (distinct_terms t) ks c.as_slice.result.now
+    (subst (λ (xs : List Card). Deals dealt.names (style_of t) ks xs) (sym c.as_slice.ensures.value) dealt.deals) c.args.weight o h)
     c.choose.ensures

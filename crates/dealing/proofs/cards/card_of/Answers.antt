@@ -42,9 +42,9 @@ pub loop-k-preserved : goal.loop-k-preserved
 loop-k-preserved c =
     let adds = c.in-ok-column.ensures in
     let more =
-    rows_more (named_rows c.loop-k.names) (named_rows c.column-of.new.names) (power c.args.kernel.now.cokernel) (8 * c.args.kernel.now.expression) c.rows-rows.result.now c.loop-k.k _
+    rows_more (named_rows c.loop-k.names) (named_rows c.column_of.new.names) (power c.args.kernel.now.cokernel) (8 * c.args.kernel.now.expression) c.rows-rows.result.now c.loop-k.k _
     c.loop-k-test.true c.in-ok-column.column (listed c.loop-k.columns) (listed c.append.new.columns) c.loop-k.invariant.0 c.loop-k.invariant.1 adds c.append.ensures in
-    (more.0, more.1, grown_on (named_rows c.args.names.now) (named_rows c.loop-k.names) (named_rows c.column-of.new.names) c.loop-k.invariant.2 adds.grown)
+    (more.0, more.1, grown_on (named_rows c.args.names.now) (named_rows c.loop-k.names) (named_rows c.column_of.new.names) c.loop-k.invariant.2 adds.grown)
 
 pub returns : goal.returns
 returns c =

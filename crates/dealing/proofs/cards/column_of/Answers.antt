@@ -6,7 +6,7 @@ use Rattle.dealing.proofs.cards.column_of.Goals as goal
 
 pub returns-in-ok-name : goal.returns-in-ok-name
 returns-in-ok-name c =
-    some_column (named_rows c.args.names.now) (named_rows c.name-of.new.self) (power c.args.cokernel) c.args.place c.args.row.now c.in-Some.cube
+    some_column (named_rows c.args.names.now) (named_rows c.name_of.new.self) (power c.args.cokernel) c.args.place c.args.row.now c.in-Some.cube
     c.in-ok-name.name c.degree-degree.result c.in-Some.ensures c.in-ok-name.ensures c.degree-degree.ensures.is
 
 pub returns-in-None : goal.returns-in-None

@@ -21,8 +21,8 @@ loop-k-preserved c =
       | then-e-lt-EXPRESSIONS w ↦
           let here = operations_here t e w.index-table-e.result w.if-e-lt-EXPRESSIONS.true in
           let is = w.n-is in
-          let added = w.count-operations-n.ensures.is in
-          let small = w.count-operations-n.ensures.small in
+          let added = w.count_operations-n.ensures.is in
+          let small = w.count_operations-n.ensures.small in
           (omega arith, omega arith)
       | else-e-lt-EXPRESSIONS w ↦
           let none = operations_past t e w.if-e-lt-EXPRESSIONS.false in

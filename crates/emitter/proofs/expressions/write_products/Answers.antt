@@ -10,8 +10,8 @@ use Rattle.emitter.proofs.Writes.{puts_then, puts_same}
 use Rattle.emitter.proofs.Pushes.{products_push, summands_push, row_room}
 use Rattle.emitter.proofs.expressions.write_products.Goals as goal
 
-pub write-product-made-requires : goal.write-product-made-requires
-write-product-made-requires c =
+pub write_product-made-requires : goal.write_product-made-requires
+write_product-made-requires c =
     let rows = c.args.rows.now in
     let i = c.loop-i.i in
     let place = c.loop-i.invariant.0.place in
@@ -28,8 +28,8 @@ loop-i-preserved c =
     let x = get_or rows i no_row in
     let r = as_row x in
     let k = row_chain results r in
-    let made = c.write-product-made.ensures in
-    let term : Summand = record { sign = x.sign; operand = c.write-product-made.result.result } in
+    let made = c.write_product-made.ensures in
+    let term : Summand = record { sign = x.sign; operand = c.write_product-made.result.result } in
     let before = products results at (as_rows (take i rows)) in
     let place = c.loop-i.invariant.0.place in
     let h : i < length rows = omega arith in

@@ -30,11 +30,11 @@ loop-l-preserved c =
     let a = power c.args.cube in
     let l = c.loop-l.l in
     multiplied_same (c.multiply-product.ensures c.args.steps.now (factors f a l) c.loop-l.invariant)
-    (ap (λ (o : Operand). factors f a l ++ replicate (a l) o) c.letter-operand-factor.ensures ∙ factors_more f a l) refl refl
+    (ap (λ (o : Operand). factors f a l ++ replicate (a l) o) c.letter_operand-factor.ensures ∙ factors_more f a l) refl refl
 
 pub returns : goal.returns
 returns c =
     let f = letter_operand c.args.results.now in
     let a = power c.args.cube in
     let e : c.loop-l.l ≡ 32 = omega arith in
-    finished c.loop-l.product (multiplied_same c.loop-l.invariant (ap (factors f a) e) refl refl) c.unwrap-or.ensures
+    finished c.loop-l.product (multiplied_same c.loop-l.invariant (ap (factors f a) e) refl refl) c.unwrap_or.ensures

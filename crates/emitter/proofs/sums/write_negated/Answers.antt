@@ -22,7 +22,7 @@ returns-then-terms-eq0 c =
 pub link-requires : goal.link-requires
 link-requires c =
     let some : 0 < length c.args.terms.now = omega arith in
-    let n = chained_next c.link-each-added.ensures in
+    let n = chained_next c.link_each-added.ensures in
     let len = rest_length c.args.terms.now some in
     record { room = omega arith; few = omega arith }
 
@@ -30,8 +30,8 @@ pub returns : goal.returns
 returns c =
     let ts = c.args.terms.now in
     let some : 0 < length ts = omega arith in
-    let n = chained_next c.link-each-added.ensures in
+    let n = chained_next c.link_each-added.ensures in
     let len = rest_length ts some in
-    let room : c.link-each-added.result.next < length c.link-each-added.new.steps = omega arith in
+    let room : c.link_each-added.result.next < length c.link_each-added.new.steps = omega arith in
     subst (λ (k : Chain). Built c.args.steps.now c.args.at k c.link.result.next c.link.result.result c.link.new.steps) (sym (negated_some ts no_term some))
-    (chained_same (chained_push (Neg, Zero) c.link-each-added.ensures room) refl c.link.ensures.next c.link.ensures.result c.link.ensures.steps)
+    (chained_same (chained_push (Neg, Zero) c.link_each-added.ensures room) refl c.link.ensures.next c.link.ensures.result c.link.ensures.steps)

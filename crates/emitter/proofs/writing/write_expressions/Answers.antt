@@ -11,8 +11,8 @@ use Rattle.emitter.proofs.Tables.{emitted_room, rows_few}
 use Rattle.emitter.proofs.writing.write_expressions.Goals as goal
 use Rattle.emitter.proofs.writing.write_expressions.Goals.{then-e-lt-EXPRESSIONS, else-e-lt-EXPRESSIONS}
 
-pub write-expression-made-requires : goal.write-expression-made-requires
-write-expression-made-requires c =
+pub write_expression-made-requires : goal.write_expression-made-requires
+write_expression-made-requires c =
     let t = c.args.table.now in
     let k = c.loop-k.k in
     let e = get_or t.order k 0 in
@@ -39,13 +39,13 @@ loop-k-preserved c =
     let lent : as_rows c.rows.result.now ≡ rows e = ap as_rows c.rows.ensures in
     let place = c.loop-k.invariant.0.place in
     let before = emitted rows none_made 0 (take k t.order) in
-    let made = c.write-expression-made.ensures in
+    let made = c.write_expression-made.ensures in
     let more = take_more t.order k 0 h in
-    let noted : c.if-e-lt-EXPRESSIONS.results ≡ set results e c.write-expression-made.result.result = elim c.if-e-lt-EXPRESSIONS.branch [
+    let noted : c.if-e-lt-EXPRESSIONS.results ≡ set results e c.write_expression-made.result.result = elim c.if-e-lt-EXPRESSIONS.branch [
       | then-e-lt-EXPRESSIONS w ↦ w.results-is
       | else-e-lt-EXPRESSIONS w ↦
           let past : length results ≤ e = omega (arith, c.loop-k.invariant.2, w.if-e-lt-EXPRESSIONS.false) in
-          w.results-is ∙ sym (set_past results e c.write-expression-made.result.result past)
+          w.results-is ∙ sym (set_past results e c.write_expression-made.result.result past)
     ] in (
       puts_same (before ++ expression_steps results next (as_rows c.rows.result.now)) (emitted rows none_made 0 (take (k + 1) t.order))
           (ap (λ rs. before ++ expression_steps results next rs) lent
@@ -55,5 +55,5 @@ loop-k-preserved c =
       noted ∙ ap (set results e) (made.result ∙ ap (expression_result results next) lent)
           ∙ ap₂ (λ (rs : List Operand) (n : ℕ). set rs e (expression_result rs n (rows e))) c.loop-k.invariant.1 place
           ∙ sym (resulting_push rows none_made 0 (take k t.order) e) ∙ ap (resulting rows none_made 0) (sym more),
-      ap length noted ∙ length-set results e c.write-expression-made.result.result ∙ c.loop-k.invariant.2,
+      ap length noted ∙ length-set results e c.write_expression-made.result.result ∙ c.loop-k.invariant.2,
     )

@@ -12,7 +12,7 @@ loop-row-preserved c =
     let n = c.loop-row.number in
     let i = c.loop-row.row-index in
     let old = vec_items c.loop-row.columns in
-    elim c.match-column-of.branch [
+    elim c.match-column_of.branch [
       | in-Some w ↦ elim w.if-number-eq1.branch [
         | then-number-eq1+in-ok-push v ↦
             let p = v.in-ok-push.ensures in

@@ -18,6 +18,6 @@ returns c =
       numerals = refl;
       parts = refl;
       order =
-          order_more (factored_from (as_takens c.args.taken.now)) _ n t.parts t.order c.with-part-order.result (omega (arith, is)) is (omega (arith, c.requires, t.places))
-          c.with-part-order.ensures.put;
+          order_more (factored_from (as_takens c.args.taken.now)) _ n t.parts t.order c.with_part-order.result (omega (arith, is)) is (omega (arith, c.requires, t.places))
+          c.with_part-order.ensures.put;
     }

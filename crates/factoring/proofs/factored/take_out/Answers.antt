@@ -11,11 +11,11 @@ use Rattle.factoring.specs.declared.taken.TakenKernel.{TakenKernel}
 use Rattle.factoring.proofs.Wholes.{few_rows, set_alike, takes_out, untaken}
 use Rattle.factoring.proofs.factored.take_out.Goals as goal
 
-pub take-all-requires : goal.take-all-requires
-take-all-requires c =
+pub take_all-requires : goal.take_all-requires
+take_all-requires c =
     let e = (get_or c.args.kernels.now c.args.place no_kernel).expression in
     let d : length c.rows.result.now ≡ length (rows_at c.args.table.now e) = ap length c.rows.ensures in
-    omega (arith, d, c.in-ok-columns.ensures.few, c.as-slice.ensures.len, few_rows c.args.table.now e)
+    omega (arith, d, c.in-ok-columns.ensures.few, c.as_slice.ensures.len, few_rows c.args.table.now e)
 
 pub returns-in-Some : goal.returns-in-Some
 returns-in-Some c =
@@ -26,12 +26,12 @@ returns-in-Some c =
     let h = c.if-place-kernels.false in
     let a = set_alike t ks c.args.place c.args.set h xs c.rows.result.now c.rows.ensures c.in-ok-columns.ensures.named in
     let b : as_takens ts ≡ taken_by (style_of t) (as_rows xs) (as_kernels ks)
-    = c.in-ok-taken.ensures ∙ ap (λ (ys : List Row). taken_by (style_of t) (as_rows ys) (as_kernels ks)) c.as-slice.ensures.value in
-    let k : Factors t (as_rows c.as-slice-2.result.now) (as_takens c.as-slice-3.result.now) c.in-Some.next = search rules in
+    = c.in-ok-taken.ensures ∙ ap (λ (ys : List Row). taken_by (style_of t) (as_rows ys) (as_kernels ks)) c.as_slice.ensures.value in
+    let k : Factors t (as_rows c.as_slice-2.result.now) (as_takens c.as_slice-3.result.now) c.in-Some.next = search rules in
     takes_out t ks c.args.place c.args.set h (as_rows xs) (as_takens ts) a b _
-    (subst₂ (λ (ys : List Row) (us : List TakenKernel). Factors t (as_rows ys) (as_takens us) c.in-Some.next) c.as-slice-2.ensures.value c.as-slice-3.ensures.value k)
-    (c.len.ensures ∙ sym (length-map ts as_taken ∙ ap length (sym c.as-slice-3.ensures.value) ∙ c.as-slice-3.ensures.len))
-    (c.len-in-Some.ensures ∙ sym (length-map xs as_row ∙ ap length (sym c.as-slice-2.ensures.value) ∙ c.as-slice-2.ensures.len))
+    (subst₂ (λ (ys : List Row) (us : List TakenKernel). Factors t (as_rows ys) (as_takens us) c.in-Some.next) c.as_slice-2.ensures.value c.as_slice-3.ensures.value k)
+    (c.len.ensures ∙ sym (length-map ts as_taken ∙ ap length (sym c.as_slice-3.ensures.value) ∙ c.as_slice-3.ensures.len))
+    (c.len-in-Some.ensures ∙ sym (length-map xs as_row ∙ ap length (sym c.as_slice-2.ensures.value) ∙ c.as_slice-2.ensures.len))
 
 pub returns : goal.returns
 returns c =
@@ -42,7 +42,7 @@ returns c =
     let h = c.if-place-kernels.false in
     let a = set_alike t ks c.args.place c.args.set h xs c.rows.result.now c.rows.ensures c.in-ok-columns.ensures.named in
     let b : as_takens ts ≡ taken_by (style_of t) (as_rows xs) (as_kernels ks)
-    = c.in-ok-taken.ensures ∙ ap (λ (ys : List Row). taken_by (style_of t) (as_rows ys) (as_kernels ks)) c.as-slice.ensures.value in
-    let k : Unfactored t (as_rows c.as-slice-2.result.now) (as_takens c.as-slice-3.result.now) = search rules in
+    = c.in-ok-taken.ensures ∙ ap (λ (ys : List Row). taken_by (style_of t) (as_rows ys) (as_kernels ks)) c.as_slice.ensures.value in
+    let k : Unfactored t (as_rows c.as_slice-2.result.now) (as_takens c.as_slice-3.result.now) = search rules in
     untaken t ks c.args.place c.args.set h (as_rows xs) (as_takens ts) a b
-    (subst₂ (λ (ys : List Row) (us : List TakenKernel). Unfactored t (as_rows ys) (as_takens us)) c.as-slice-2.ensures.value c.as-slice-3.ensures.value k)
+    (subst₂ (λ (ys : List Row) (us : List TakenKernel). Unfactored t (as_rows ys) (as_takens us)) c.as_slice-2.ensures.value c.as_slice-3.ensures.value k)

@@ -15,13 +15,13 @@ loop-k-preserved c =
     let xs = c.args.rows.now in
     let k = c.loop-k.k in
     let h = c.loop-k-test.true in
-    elim c.if-not-is-covered.branch [
-      | then-not-is-covered+in-ok-push w ↦
+    elim c.if-not-is_covered.branch [
+      | then-not-is_covered+in-ok-push w ↦
           ap (λ (ys : List Row). as_rows ys ++ still gone xs (k + 1)) (ap vec_items w.rest-is ∙ w.in-ok-push.ensures.items)
-          ∙ still_in gone xs k h (sym w.if-not-is-covered.ensures) (vec_items c.loop-k.rest) ∙ c.loop-k.invariant
-      | else-not-is-covered w ↦
+          ∙ still_in gone xs k h (sym w.if-not-is_covered.ensures) (vec_items c.loop-k.rest) ∙ c.loop-k.invariant
+      | else-not-is_covered w ↦
           ap (λ (ys : List Row). as_rows ys ++ still gone xs (k + 1)) (ap vec_items w.rest-is)
-          ∙ ap (λ (ys : List Term). as_rows (vec_items c.loop-k.rest) ++ ys) (still_out gone xs k h (sym w.if-not-is-covered.ensures)) ∙ c.loop-k.invariant
+          ∙ ap (λ (ys : List Term). as_rows (vec_items c.loop-k.rest) ++ ys) (still_out gone xs k h (sym w.if-not-is_covered.ensures)) ∙ c.loop-k.invariant
     ]
 
 pub returns : goal.returns

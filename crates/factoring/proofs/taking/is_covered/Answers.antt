@@ -7,7 +7,7 @@ use Rattle.factoring.proofs.taking.is_covered.Goals.{else-t-e-via-else-t-e, else
 
 pub returns-then-contains : goal.returns-then-contains
 returns-then-contains c =
-    let there = sym (ap (λ xs. has xs c.args.place) c.as-slice.ensures) ∙ sym c.if-contains.ensures in
+    let there = sym (ap (λ xs. has xs c.args.place) c.as_slice.ensures) ∙ sym c.if-contains.ensures in
     sym (sym c.loop-t.invariant ∙ covers_own c.args.e c.args.place c.args.taken.now c.loop-t.t-index c.t-item.result c.loop-t-test.true c.t-item.is c.if-t-e.true
     ∙ or_left _ _ there)
 
@@ -18,7 +18,7 @@ loop-t-preserved c =
     elim c.else-t-e.branch [
       | else-t-e-via-else-t-e w ↦ sym (covers_other c.args.e c.args.place ts i c.t-item.result c.loop-t-test.true c.t-item.is w.if-t-e.false) ∙ c.loop-t.invariant
       | else-t-e-via-then-t-e+else-contains w ↦
-          let there = sym (ap (λ xs. has xs c.args.place) w.as-slice.ensures) ∙ sym w.if-contains.ensures in
+          let there = sym (ap (λ xs. has xs c.args.place) w.as_slice.ensures) ∙ sym w.if-contains.ensures in
           sym (covers_own c.args.e c.args.place ts i c.t-item.result c.loop-t-test.true c.t-item.is w.if-t-e.true
           ∙ ap (λ (b : Bool). b || covers c.args.e c.args.place (drop (i + 1) ts)) there) ∙ c.loop-t.invariant
     ]

@@ -6,5 +6,5 @@ use Rattle.factoring.proofs.taking.look.Goals as goal
 pub returns-in-ok-push : goal.returns-in-ok-push
 returns-in-ok-push c =
     let o = c.in-Some.ensures in
-    taken_from c.args.table.now (as_rows c.args.columns.now) c.args.kernel c.in-Some.places c.rows-rows.result.now c.as-slice.result.now (vec_items c.args.taken.now) _
-    c.rows-rows.ensures c.as-slice.ensures.value c.in-ok-push.ensures.items o.0 o.1
+    taken_from c.args.table.now (as_rows c.args.columns.now) c.args.kernel c.in-Some.places c.rows-rows.result.now c.as_slice.result.now (vec_items c.args.taken.now) _
+    c.rows-rows.ensures c.as_slice.ensures.value c.in-ok-push.ensures.items o.0 o.1

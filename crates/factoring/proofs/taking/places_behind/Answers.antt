@@ -11,7 +11,7 @@ use Rattle.factoring.proofs.taking.places_behind.Goals as goal
 
 pub returns-in-err-k : goal.returns-in-err-k
 returns-in-err-k c =
-    rw c.from-residual.ensures (sym c.loop-i.invariant.0
+    rw c.from_residual.ensures (sym c.loop-i.invariant.0
     ∙ open_less (as_rows c.args.rows.now) (power c.args.cokernel) (covered (taken_in c.args.e (as_takens c.args.taken.now))) c.args.columns.now c.loop-i.i c.loop-i-test.true
     c.in-err-k.ensures)
 

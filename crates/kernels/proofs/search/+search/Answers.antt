@@ -8,7 +8,7 @@ use Rattle.kernels.proofs.search.+search.Goals as goal
 pub loop-j-init : goal.loop-j-init
 loop-j-init t c = (
   c.requires.letter,
-  written_one _ _ _ _ _ c.args.out.now _ _ c.requires.own c.used-rows.ensures c.put-n.ensures.end c.put-n.ensures.written,
+  written_one _ _ _ _ _ c.args.out.now _ _ c.requires.own c.used_rows.ensures c.put-n.ensures.end c.put-n.ensures.written,
 )
 
 pub search-n-requires : goal.search-n-requires

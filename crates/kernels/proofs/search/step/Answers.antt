@@ -3,28 +3,28 @@ use Rattle.cubes.specs.Powers.{power}
 use Rattle.kernels.proofs.Letters.{barren_lone, barren_before, fits_common, leads}
 use Rattle.kernels.proofs.search.step.Goals as goal
 
-pub returns-then-not-has-pair : goal.returns-then-not-has-pair
-returns-then-not-has-pair c =
+pub returns-then-not-has_pair : goal.returns-then-not-has_pair
+returns-then-not-has_pair c =
     barren_lone _ (power c.args.d) _ c.requires.letter (power c.in-ok-x.x) c.in-ok-x.ensures.1
-    _ c.quotient-by-letter.ensures (c.if-not-has-pair.ensures.no refl)
+    _ c.quotient-by_letter.ensures (c.if-not-has_pair.ensures.no refl)
 
-pub returns-then-has-before : goal.returns-then-has-before
-returns-then-has-before c =
-    let w = c.if-has-before.ensures.yes refl in
+pub returns-then-has_before : goal.returns-then-has_before
+returns-then-has_before c =
+    let w = c.if-has_before.ensures.yes refl in
     barren_before _ (power c.args.d) _ c.requires.letter (power c.in-ok-x.x) c.in-ok-x.ensures.1
-    _ c.quotient-by-letter.ensures (power c.common-cube-c.result) c.common-cube-c.ensures w.0 w.1 w.2
+    _ c.quotient-by_letter.ensures (power c.common_cube-c.result) c.common_cube-c.ensures w.0 w.1 w.2
 
 pub returns-in-None : goal.returns-in-None
 returns-in-None c =
     absurd (fits_common _ (power c.args.d) _ c.requires.letter (power c.in-ok-x.x) c.in-ok-x.ensures.1
-    _ c.quotient-by-letter.ensures (power c.common-cube-c.result) c.common-cube-c.ensures
+    _ c.quotient-by_letter.ensures (power c.common_cube-c.result) c.common_cube-c.ensures
     (power c.in-ok-lettered.lettered) c.in-ok-lettered.ensures.0
-    c.requires.small (c.if-not-has-pair.ensures.yes refl) c.in-None.ensures)
+    c.requires.small (c.if-not-has_pair.ensures.yes refl) c.in-None.ensures)
 
 pub returns-in-Some : goal.returns-in-Some
 returns-in-Some c =
     leads _ (power c.args.d) _ c.requires.letter (power c.in-ok-x.x) c.in-ok-x.ensures.1
-    _ c.quotient-by-letter.ensures (power c.common-cube-c.result) c.common-cube-c.ensures
+    _ c.quotient-by_letter.ensures (power c.common_cube-c.result) c.common_cube-c.ensures
     (power c.in-ok-lettered.lettered) c.in-ok-lettered.ensures.0
     (power c.in-Some.cube) c.in-Some.ensures.0 _ c.quotient-rest.ensures
-    (c.if-has-before.ensures.no refl) (c.if-not-has-pair.ensures.yes refl)
+    (c.if-has_before.ensures.no refl) (c.if-not-has_pair.ensures.yes refl)

@@ -13,7 +13,7 @@ returns c =
         some = some;
         small = small;
         eight = c.if-powers-ne-MEASURES.false;
-        light = c.if-not-is-light.ensures.yes refl;
+        light = c.if-not-is_light.ensures.yes refl;
       },
       e,
     )

@@ -11,7 +11,7 @@ loop-n-preserved g c =
     let steps = c.args.steps.now in
     let numerals = c.args.numerals.now in
     let cells = c.loop-n.bench.cells.now in
-    let v = c.step-value-value.result in
+    let v = c.step_value-value.result in
     let n = c.loop-n.n in
     let under : n < length steps = c.loop-n-test.true in
     let room = c.requires.room in
@@ -20,7 +20,7 @@ loop-n-preserved g c =
     let e : map f c.write.new.self.cells.now ≡ set (map f cells) n (f v) = ap (map f) c.write.ensures ∙ map-set f cells n v in
     let here : n < length (map f cells) = simp length-map within in (
       subst (λ (xs : List m.Meaning). StepValues m.ring numerals (map f c.args.measures.now) steps (n + 1) xs) (sym e)
-          (values_more m.ring numerals (map f c.args.measures.now) (length numerals) n steps (map f cells) _ (f v) c.requires.legal under here c.step-value-value.ensures c.loop-n.invariant.0),
+          (values_more m.ring numerals (map f c.args.measures.now) (length numerals) n steps (map f cells) _ (f v) c.requires.legal under here c.step_value-value.ensures c.loop-n.invariant.0),
       ap (drop (length steps)) c.write.ensures ∙ drop-set-lt (length steps) cells n v under ∙ c.loop-n.invariant.1,
       ap length c.write.ensures ∙ length-set cells n v ∙ c.loop-n.invariant.2,
     )

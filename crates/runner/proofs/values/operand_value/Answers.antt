@@ -10,8 +10,8 @@ returns-in-Measure g c =
     let m = g.R.Ring in
     let xs = c.args.measures.now in
     let cells = map m.meaning c.args.bench.now.cells.now in
-    subst (λ (o : Operand). m.meaning c.cell-or.result ≡ operand_value m.ring c.args.numerals.now (map m.meaning xs) cells o) (sym c.in-Measure.is)
-    (ap m.meaning c.cell-or.ensures ∙ meant_at m.meaning xs _ c.zero.result m.ring.zero c.zero.ensures)
+    subst (λ (o : Operand). m.meaning c.cell_or.result ≡ operand_value m.ring c.args.numerals.now (map m.meaning xs) cells o) (sym c.in-Measure.is)
+    (ap m.meaning c.cell_or.ensures ∙ meant_at m.meaning xs _ c.zero.result m.ring.zero c.zero.ensures)
 
 pub returns-in-Numeral : goal.returns-in-Numeral
 returns-in-Numeral g c =
@@ -19,11 +19,11 @@ returns-in-Numeral g c =
     let ns = c.args.numerals.now in
     let cells = map m.meaning c.args.bench.now.cells.now in
     subst (λ (o : Operand). m.meaning c.numeral.result ≡ operand_value m.ring ns (map m.meaning c.args.measures.now) cells o) (sym c.in-Numeral.is)
-    (c.numeral.ensures ∙ ap (ones_sum m.ring) c.cell-or-in-Numeral.ensures)
+    (c.numeral.ensures ∙ ap (ones_sum m.ring) c.cell_or-in-Numeral.ensures)
 
 pub returns-in-ResultOf : goal.returns-in-ResultOf
 returns-in-ResultOf g c =
     let m = g.R.Ring in
     let xs = c.args.bench.now.cells.now in
-    subst (λ (o : Operand). m.meaning c.read-or.result ≡ operand_value m.ring c.args.numerals.now (map m.meaning c.args.measures.now) (map m.meaning xs) o) (sym c.in-ResultOf.is)
-    (ap m.meaning c.read-or.ensures ∙ meant_at m.meaning xs _ c.zero-in-ResultOf.result m.ring.zero c.zero-in-ResultOf.ensures)
+    subst (λ (o : Operand). m.meaning c.read_or.result ≡ operand_value m.ring c.args.numerals.now (map m.meaning c.args.measures.now) (map m.meaning xs) o) (sym c.in-ResultOf.is)
+    (ap m.meaning c.read_or.ensures ∙ meant_at m.meaning xs _ c.zero-in-ResultOf.result m.ring.zero c.zero-in-ResultOf.ensures)

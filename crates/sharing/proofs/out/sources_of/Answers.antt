@@ -18,12 +18,12 @@ loop-e-preserved c =
     let p = power c.args.cube in
     let e = c.loop-e.e in
     let l : e < length c.loop-e.sources = omega (arith, c.loop-e.invariant.0, c.loop-e-test.true) in
-    let b : ltb 0 c.divided-rows.result ≡ any_divided p (as_rows (rows_at t e)) =
-    ap (ltb 0) (c.divided-rows.ensures ∙ ap (divided_rows p) c.rows.ensures ∙ sym (divided_are p (rows_at t e))) ∙ any_counted p (as_rows (rows_at t e))
+    let b : ltb 0 c.divided_rows.result ≡ any_divided p (as_rows (rows_at t e)) =
+    ap (ltb 0) (c.divided_rows.ensures ∙ ap (divided_rows p) c.rows.ensures ∙ sym (divided_are p (rows_at t e))) ∙ any_counted p (as_rows (rows_at t e))
     in (
       simp length-set c.loop-e.invariant.0,
-      below_more _ e (λ k h. get_or-set_other c.loop-e.sources e k (ltb 0 c.divided-rows.result) false (let ne : k ≢ e = omega arith in ne) ∙ c.loop-e.invariant.1 k h)
-          (get_or-set_same c.loop-e.sources e (ltb 0 c.divided-rows.result) false l ∙ b),
+      below_more _ e (λ k h. get_or-set_other c.loop-e.sources e k (ltb 0 c.divided_rows.result) false (let ne : k ≢ e = omega arith in ne) ∙ c.loop-e.invariant.1 k h)
+          (get_or-set_same c.loop-e.sources e (ltb 0 c.divided_rows.result) false l ∙ b),
     )
 
 pub returns : goal.returns

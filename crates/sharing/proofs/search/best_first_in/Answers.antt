@@ -3,8 +3,8 @@ use Rattle.sharing.proofs.Bests.{so_far_first_over}
 use Rattle.sharing.proofs.Rows.{rows_all, stands_there}
 use Rattle.sharing.proofs.search.best_first_in.Goals as goal
 
-pub best-second-best-requires : goal.best-second-best-requires
-best-second-best-requires c = record {
+pub best_second-best-requires : goal.best_second-best-requires
+best_second-best-requires c = record {
   first = stands_there c.args.table.now c.args.e c.loop-row.row c.rows-row-end.result.now c.rows-row-end.ensures c.requires.first c.loop-row-test.true;
   before = c.loop-row.invariant;
 }

@@ -21,8 +21,8 @@ returns-in-Err c =
       known = λ s same fits. known_not_refused s c.args.file.now c.in-Err.fault.why c.in-Err.fault.place _ same fits why;
     }
 
-pub fill-steps-requires : goal.fill-steps-requires
-fill-steps-requires c =
+pub fill_steps-requires : goal.fill_steps-requires
+fill_steps-requires c =
     let passed = c.in-Ok.ensures in
     let layout = passed.opened.layout in
     let held = c.in-Ok.checked.layout.held in
@@ -31,7 +31,7 @@ fill-steps-requires c =
     let long : length c.section.result.now ≡ 5 * used = c.section.ensures.long in
     let fits = passed.opened.fits in
     let len = c.len.ensures in
-    let room = c.deref-mut.ensures.len in
+    let room = c.deref_mut.ensures.len in
     record {
       held = layout.numerals.0;
       few = omega arith;
@@ -48,8 +48,8 @@ returns-in-Ok-make c =
     let held = c.in-Ok.checked.layout.held in
     let used = c.in-Ok.checked.layout.used in
     let s = c.in-Ok-make.sheet in
-    let last = c.fill-steps.new.buffer in
-    let filled = c.fill-steps.ensures in
+    let last = c.fill_steps.new.buffer in
+    let filled = c.fill_steps.ensures in
     let kept : length last ≡ c.args.buffer.len = search rules in
     let items = with_items_is c.args.buffer last kept in
     let made = c.in-Ok-make.ensures in
@@ -69,7 +69,7 @@ returns-in-Ok-make c =
     (ap (flat_map step_bytes) steps ∙ ap (λ (n : ℕ). flat_map step_bytes (take n last)) (sym count) ∙ filled.bytes ∙ c.section.ensures.value)
     (ap (flat_map output_bytes) made.outputs_kept ∙ passed.outputs) in
     record {
-      answer = (bytes, made.behind_kept ∙ ap (drop used) items ∙ subst (λ (n : ℕ). drop n last ≡ drop n c.deref-mut.result.now) count filled.behind ∙ (λ i. drop (sym many i) (c.deref-mut.ensures.value i)));
+      answer = (bytes, made.behind_kept ∙ ap (drop used) items ∙ subst (λ (n : ℕ). drop n last ≡ drop n c.deref_mut.result.now) count filled.behind ∙ (λ i. drop (sym many i) (c.deref_mut.ensures.value i)));
       known = λ t same fits. same_sheet t s (same ∙ sym bytes);
     }
 
@@ -80,8 +80,8 @@ returns-in-Err-make c =
     let layout = passed.opened.layout in
     let held = c.in-Ok.checked.layout.held in
     let used = c.in-Ok.checked.layout.used in
-    let last = c.fill-steps.new.buffer in
-    let filled = c.fill-steps.ensures in
+    let last = c.fill_steps.new.buffer in
+    let filled = c.fill_steps.ensures in
     let kept : length last ≡ c.args.buffer.len = search rules in
     let items = with_items_is c.args.buffer last kept in
     let long : length c.section.result.now ≡ 5 * used = c.section.ensures.long in

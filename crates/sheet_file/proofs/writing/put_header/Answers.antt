@@ -6,5 +6,5 @@ pub returns : goal.returns
 returns c =
     record {
       place = search rules;
-      puts = puts_then c.put-bytes-first.ensures.puts (puts_then c.put-word-second.ensures.puts (puts_then c.put-word-third.ensures.puts (puts_then c.put-word-fourth.ensures.puts (puts_then c.put-word-fifth.ensures.puts c.put-word.ensures.puts))));
+      puts = puts_then c.put_bytes-first.ensures.puts (puts_then c.put_word-second.ensures.puts (puts_then c.put_word-third.ensures.puts (puts_then c.put_word-fourth.ensures.puts (puts_then c.put_word-fifth.ensures.puts c.put_word.ensures.puts))));
     }

@@ -21,5 +21,5 @@ returns c =
     record {
       fits = search rules;
       written = puts_same _ _ whole
-          (puts_then c.put-header-first.ensures.puts (puts_then c.put-numerals-second.ensures.puts (puts_then c.put-steps-third.ensures.puts c.put-outputs-end.ensures.puts)));
+          (puts_then c.put_header-first.ensures.puts (puts_then c.put_numerals-second.ensures.puts (puts_then c.put_steps-third.ensures.puts c.put_outputs-end.ensures.puts)));
     }

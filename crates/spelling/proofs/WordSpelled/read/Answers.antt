@@ -1,4 +1,4 @@
 use Rattle.spelling.proofs.WordSpelled.read.Goals as goal
 
 pub returns-in-err-x : goal.returns-in-err-x
-returns-in-err-x c = rw c.from-residual.ensures (λ w. c.in-err-x.ensures w.value)
+returns-in-err-x c = rw c.from_residual.ensures (λ w. c.in-err-x.ensures w.value)

@@ -4,4 +4,4 @@ use Rattle.spelling.proofs.numbers.has_plus.Goals as goal
 
 pub returns : goal.returns
 returns c =
-    let d = starts_char 43 c.args.text.now c.starts-with.result c.starts-with.ensures.cases (lit< tt) (lit< tt) in search rules
+    let d = starts_char 43 c.args.text.now c.starts_with.result c.starts_with.ensures.cases (lit< tt) (lit< tt) in search rules

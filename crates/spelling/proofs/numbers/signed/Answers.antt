@@ -6,16 +6,16 @@ use Rattle.spelling.proofs.numbers.signed.Goals as goal
 
 pub returns-in-err-decimal : goal.returns-in-err-decimal
 returns-in-err-decimal c =
-    let e = MatchOption-at_some _ _ c.in-Some.digits c.in-Some.is (strip_prefix_char 45 c.args.text.now c.strip-prefix.result c.strip-prefix.ensures.cases (lit< tt)) in
-    rw c.from-residual.ensures (no_negated c.args.modulus e c.in-err-decimal.ensures)
+    let e = MatchOption-at_some _ _ c.in-Some.digits c.in-Some.is (strip_prefix_char 45 c.args.text.now c.strip_prefix.result c.strip_prefix.ensures.cases (lit< tt)) in
+    rw c.from_residual.ensures (no_negated c.args.modulus e c.in-err-decimal.ensures)
 
 pub returns-in-ok-decimal : goal.returns-in-ok-decimal
 returns-in-ok-decimal c =
-    let e = MatchOption-at_some _ _ c.in-Some.digits c.in-Some.is (strip_prefix_char 45 c.args.text.now c.strip-prefix.result c.strip-prefix.ensures.cases (lit< tt)) in
+    let e = MatchOption-at_some _ _ c.in-Some.digits c.in-Some.is (strip_prefix_char 45 c.args.text.now c.strip_prefix.result c.strip_prefix.ensures.cases (lit< tt)) in
     let d = c.in-ok-decimal.ensures in
     negated c.args.modulus c.opposite.result e d.0 d.1 c.opposite.ensures.below c.opposite.ensures.cancels
 
 pub returns-in-None : goal.returns-in-None
 returns-in-None c =
-    let e = MatchOption-at_none _ _ c.in-None.is (strip_prefix_char 45 c.args.text.now c.strip-prefix.result c.strip-prefix.ensures.cases (lit< tt)) in
+    let e = MatchOption-at_none _ _ c.in-None.is (strip_prefix_char 45 c.args.text.now c.strip_prefix.result c.strip_prefix.ensures.cases (lit< tt)) in
     spelled_plain c.args.modulus c.args.text.now c.decimal-in-None.result e c.decimal-in-None.ensures

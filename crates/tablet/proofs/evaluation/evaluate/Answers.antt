@@ -7,10 +7,10 @@ use Rattle.tablet.specs.Telling.{report_text}
 use Rattle.tablet.proofs.evaluation.evaluate.Goals as goal
 
 pub returns-in-err-values : goal.returns-in-err-values
-returns-in-err-values g c = IfOk-from_err _ _ c.from-residual-in-err-values.ensures.0
+returns-in-err-values g c = IfOk-from_err _ _ c.from_residual-in-err-values.ensures.0
 
 pub returns-in-err-report : goal.returns-in-err-report
-returns-in-err-report g c = IfOk-from_err _ _ c.from-residual-in-err-report.ensures.0
+returns-in-err-report g c = IfOk-from_err _ _ c.from_residual-in-err-report.ensures.0
 
 pub returns-in-Outputs : goal.returns-in-Outputs
 returns-in-Outputs g c =

@@ -17,7 +17,7 @@ returns-in-Ok g c =
     let kept : length outputs ≡ c.in-ok-outputs.outputs.len = search rules in
     let items = with_items_is c.in-ok-outputs.outputs outputs kept in
     record {
-      eight = ran_eight (length c.args.measures.now) (length (sheet_steps sheet)) (length c.over-bench.result.cells.now) (length c.deref-mut-2.result.now) c.in-Ok.field-0 told.answer;
+      eight = ran_eight (length c.args.measures.now) (length (sheet_steps sheet)) (length c.over-bench.result.cells.now) (length c.deref_mut-2.result.now) c.in-Ok.field-0 told.answer;
       sixteen = ap length items ∙ kept ∙ c.in-ok-outputs.ensures;
       cells = cells;
       steps = ran.steps;

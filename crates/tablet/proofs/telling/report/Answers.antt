@@ -30,9 +30,9 @@ loop-f-preserved g c =
     let all = c.requires in
     let under = c.loop-f-test.true in
     let within : f < length values = omega arith in
-    lines_more (counts_line (sheet_steps sheet)) (string_bytes c.loop-f.text) (string_bytes c.push-formula.new.text) f (formula_line (sheet_outputs sheet) (map shows values)) c.loop-f.invariant
-    (line_here (sheet_outputs sheet) c.outputs-operand-items.result.now (map shows values) f _ (string_bytes c.loop-f.text) (string_bytes c.push-formula.new.text) (shows c.index-values-f.result) are under
-    (ap shows c.index-values-f.is ∙ sym (get_or-map shows values f c.index-values-f.result [] within)) c.in-ok-push-formula.ensures)
+    lines_more (counts_line (sheet_steps sheet)) (string_bytes c.loop-f.text) (string_bytes c.push_formula.new.text) f (formula_line (sheet_outputs sheet) (map shows values)) c.loop-f.invariant
+    (line_here (sheet_outputs sheet) c.outputs-operand-items.result.now (map shows values) f _ (string_bytes c.loop-f.text) (string_bytes c.push_formula.new.text) (shows c.index-values-f.result) are under
+    (ap shows c.index-values-f.is ∙ sym (get_or-map shows values f c.index-values-f.result [] within)) c.in-ok-push_formula.ensures)
 
 pub returns : goal.returns
 returns g c =

@@ -5,5 +5,5 @@ use Rattle.cubes.proofs.expression.Expression.additions.Goals as goal
 
 pub returns : goal.returns
 returns c =
-    let e : c.saturating-sub.result ≡ length (rows_of c.args.self.now) - 1 = search rules in
+    let e : c.saturating_sub.result ≡ length (rows_of c.args.self.now) - 1 = search rules in
     e ∙ sym (additions_are (rows_of c.args.self.now))

@@ -7,7 +7,7 @@ use Rattle.cubes.proofs.expression.Expression.of.Goals as goal
 
 pub returns-in-err-push : goal.returns-in-err-push
 returns-in-err-push c =
-    let p = err_from_is_err_and c.from-residual.result c.from-residual.ensures.1 in
+    let p = err_from_is_err_and c.from_residual.result c.from_residual.ensures.1 in
     rw (p.1, p.2)
     (row_refused c.args.rows.now c.loop-row.row-index c.loop-row-test.true (rows_of c.loop-row.e) c.loop-row.invariant
     c.loop-row.e.apart _ _ c.in-err-push.ensures)

@@ -2,4 +2,4 @@ use Rattle.std.proofs.Common.{[]}
 use Rattle.opening.proofs.style.OpenStyle.blank.Goals as goal
 
 pub invariant-of-result : goal.invariant-of-result
-invariant-of-result c = (∣ ([], c.empty-table.ensures) ∣₁, tt)
+invariant-of-result c = (∣ ([], c.empty_table.ensures) ∣₁, tt)

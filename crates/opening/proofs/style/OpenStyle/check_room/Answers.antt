@@ -14,9 +14,9 @@ returns c =
       fresh = search rules;
       formula = search rules;
       style = search rules;
-      numerals = elim c.else-is-new.branch [
-        | else-is-new-via-then-is-new+else-count-ge-NUMERALS w ↦
-            omega (arith, length_new ns m (sym c.is-new.ensures ∙ w.if-is-new.true), w.count.ensures, w.if-count-ge-NUMERALS.false)
-        | else-is-new-via-else-is-new w ↦ omega (arith, length_old ns m (sym c.is-new.ensures ∙ w.if-is-new.false), length_numerals held, held.few)
+      numerals = elim c.else-is_new.branch [
+        | else-is_new-via-then-is_new+else-count-ge-NUMERALS w ↦
+            omega (arith, length_new ns m (sym c.is_new.ensures ∙ w.if-is_new.true), w.count.ensures, w.if-count-ge-NUMERALS.false)
+        | else-is_new-via-else-is_new w ↦ omega (arith, length_old ns m (sym c.is_new.ensures ∙ w.if-is_new.false), length_numerals held, held.few)
       ];
     }

@@ -26,5 +26,5 @@ returns c =
       part_rows = ap (rows_in (set t.expressions n c.args.part)) (sym is) ∙ rows_set_here t.expressions n c.args.part (omega (arith, t.all));
       numerals = refl;
       parts = refl;
-      order = order_placed (source c.args.sources.now) t.order c.order-with-order.result t.parts n is (omega (arith, t.places)) c.order-with-order.ensures.put;
+      order = order_placed (source c.args.sources.now) t.order c.order_with-order.result t.parts n is (omega (arith, t.places)) c.order_with-order.ensures.put;
     }
