@@ -27,6 +27,7 @@ returns c =
     let w = c.args.x.rate.value in
     let p = c.args.y.value.value in
     let q = c.args.y.rate.value in
+    let held = c.operations_at.type_inv.1.1 in
     let counted = e.numeral ∙ ones_pair word_ring n in
     record {
       zero_is =
@@ -36,15 +37,15 @@ returns c =
           halves (number_is (2 ^ 32) (lit< tt) r.one.value.value (search rules) (value e.one))
           (number_is (2 ^ 32) (lit< tt) r.one.rate.value (search rules) (rate e.one));
       numeral_is =
-          halves (numeral_number (2 ^ 32) (lit< tt) r.numeral.value.value n (search rules) (value counted))
-          (number_is (2 ^ 32) (lit< tt) r.numeral.rate.value (search rules) (rate counted));
+          halves (numeral_number (2 ^ 32) (lit< tt) r.numeral.value.value n (search (rules, held.1.1.0)) (value counted))
+          (number_is (2 ^ 32) (lit< tt) r.numeral.rate.value (search (rules, held.1.1.0)) (rate counted));
       sum_is =
-          halves (plus_number (2 ^ 32) (lit< tt) r.sum.value.value v p (search rules) (value e.sum))
-          (plus_number (2 ^ 32) (lit< tt) r.sum.rate.value w q (search rules) (rate e.sum));
+          halves (plus_number (2 ^ 32) (lit< tt) r.sum.value.value v p (search (rules, held.1.1.1.0)) (value e.sum))
+          (plus_number (2 ^ 32) (lit< tt) r.sum.rate.value w q (search (rules, held.1.1.1.0)) (rate e.sum));
       product_is =
-          halves (times_number (2 ^ 32) (lit< tt) r.product.value.value v p (search rules) (value e.product))
-          (rate_number (2 ^ 32) (lit< tt) r.product.rate.value v w p q (search rules) (rate e.product));
+          halves (times_number (2 ^ 32) (lit< tt) r.product.value.value v p (search (rules, held.1.1.1.1.0)) (value e.product))
+          (rate_number (2 ^ 32) (lit< tt) r.product.rate.value v w p q (search (rules, held.1.1.1.1.0)) (rate e.product));
       opposite_is =
-          halves (opposite_number (2 ^ 32) (lit< tt) r.opposite.value.value v (search rules) (search rules) (value e.opposite))
-          (opposite_number (2 ^ 32) (lit< tt) r.opposite.rate.value w (search rules) (search rules) (rate e.opposite));
+          halves (opposite_number (2 ^ 32) (lit< tt) r.opposite.value.value v (search (rules, held.1.1.1.1.1.0)) (search rules) (value e.opposite))
+          (opposite_number (2 ^ 32) (lit< tt) r.opposite.rate.value w (search (rules, held.1.1.1.1.1.0)) (search rules) (rate e.opposite));
     }
