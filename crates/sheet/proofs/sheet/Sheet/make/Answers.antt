@@ -23,9 +23,15 @@ returns-then-not-outputs_legal c =
       ),
     )
 
-pub invariant-of-result : goal.invariant-of-result
-invariant-of-result c =
+pub invariant_of-result : goal.invariant_of-result
+invariant_of-result c =
     let steps = λ (h : ℕ) (xs : List Step). LegalSteps h c.args.used xs in
     let outputs = λ (h : ℕ). LegalOperands h c.args.used 16 c.args.outputs in
     let held : c.count-held.result ≡ c.args.numerals.count = c.count-held.ensures ∙ length_numerals c.args.numerals in
-    (search rules, (search rules, (subst₂ steps held c.deref.ensures.value (c.if-not-steps_legal.ensures.0 refl), (subst outputs held (c.if-not-outputs_legal.ensures.0 refl), (search rules, tt)))))
+    record {
+      few = search rules;
+      room = search rules;
+      legal = subst₂ steps held c.deref.ensures.value (c.if-not-steps_legal.ensures.0 refl);
+      exist = subst outputs held (c.if-not-outputs_legal.ensures.0 refl);
+      sixteen = search rules;
+    }
