@@ -7,7 +7,7 @@ use Rattle.std.proofs.lemmas.Bool.{cases_lt}
 use Rattle.std.specs.Str.Parse.{AllDigits, digits_value}
 use Rattle.ring.specs.declared.pair.Pair.{Pair}
 use Rattle.ring.specs.declared.word.Word.{Word}
-use Rattle.spelling.specs.Texts.{Decimal, Negated, Signed, Paired}
+use Rattle.spelling.specs.Texts.{Decimal, Signed, Paired}
 
 own : IsNumeralModel (AllDigits 10) (digits_value 10)
 own = numerals_by_value (AllDigits 10) tells_digits

@@ -88,7 +88,7 @@ impl Spelled for Pair<Word> {
     fn print(self, out: &mut String) -> Result<(), AllocError> {
         let value = self.value.value;
         let rate = self.rate.value;
-        let text = format!(in out.allocator(); "{value} {rate}")?;
+        let text = format!(in *out.allocator(); "{value} {rate}")?;
         out.push_str(text.as_str())
     }
 }

@@ -52,6 +52,6 @@ pub fn signed(text: &str, modulus: u64) -> Option<u64>
 pub fn append(out: &mut String, n: u32) -> Result<(), AllocError>
     ensures { MatchResult result (λ _. string_bytes out.new ≡ string_bytes out.old ++ written n) (λ _. string_bytes out.new ≡ string_bytes out.old) }
 {
-    let digits = format!(in out.allocator(); "{n}")?;
+    let digits = format!(in *out.allocator(); "{n}")?;
     out.push_str(digits.as_str())
 }

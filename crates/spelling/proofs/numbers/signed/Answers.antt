@@ -1,18 +1,18 @@
-use Rattle.std.proofs.Common.{◌≡◌, ◌∷◌, lit<}
+use Rattle.std.proofs.Common.{lit<}
 use Rattle.std.proofs.lemmas.Str.Pattern.{strip_prefix_char}
 use Rattle.std.proofs.lemmas.Option.{MatchOption-at_some, MatchOption-at_none}
 use Rattle.spelling.specs.Spellings.{negated, no_negated, spelled_plain}
 use Rattle.spelling.proofs.numbers.signed.Goals as goal
 
-pub returns-in-err-decimal : goal.returns-in-err-decimal
-returns-in-err-decimal c =
+pub returns-in_err-decimal-in-Some : goal.returns-in_err-decimal-in-Some
+returns-in_err-decimal-in-Some c =
     let e = MatchOption-at_some _ _ c.in-Some.digits c.in-Some.is (strip_prefix_char 45 c.args.text.now c.strip_prefix.result c.strip_prefix.ensures.cases (lit< tt)) in
-    rw c.from_residual.ensures (no_negated c.args.modulus e c.in-err-decimal.ensures)
+    rw c.from_residual.ensures (no_negated c.args.modulus e c.in_err-decimal-in-Some.ensures)
 
-pub returns-in-ok-decimal : goal.returns-in-ok-decimal
-returns-in-ok-decimal c =
+pub returns-in_ok-decimal-in-Some : goal.returns-in_ok-decimal-in-Some
+returns-in_ok-decimal-in-Some c =
     let e = MatchOption-at_some _ _ c.in-Some.digits c.in-Some.is (strip_prefix_char 45 c.args.text.now c.strip_prefix.result c.strip_prefix.ensures.cases (lit< tt)) in
-    let d = c.in-ok-decimal.ensures in
+    let d = c.in_ok-decimal-in-Some.ensures in
     negated c.args.modulus c.opposite.result e d.0 d.1 c.opposite.ensures.below c.opposite.ensures.cancels
 
 pub returns-in-None : goal.returns-in-None
