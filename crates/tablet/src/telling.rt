@@ -29,7 +29,7 @@ fn out_head(heap: Global, f: usize) -> Result<String, AllocError>
 fn push_out<R: Spelled>(text: &mut String, f: usize, value: R) -> Result<(), AllocError>
     ensures { OnOk result (string_bytes text.new ≡ string_bytes text.old ++ out_line f (R.Spelled.shows value)) }
 {
-    let head = out_head(text.allocator(), f)?;
+    let head = out_head(*text.allocator(), f)?;
     text.push_str(head.as_str())?;
     value.print(text)?;
     text.push_str("\n")?;

@@ -18,7 +18,7 @@ fn numerals(rt: HostRuntime) -> Result<(), Fail> {
         Ok(()) => return Err(Fail::new("taken")),
         Err(why) => assert_eq!(rt; why.number(), 18),
     }
-    assert!(rt; numerals.as_slice() == &[2, 3, 4, 5, 6, 7, 8, 9]);
+    assert!(rt; numerals.as_slice() == [2, 3, 4, 5, 6, 7, 8, 9].as_slice());
     Ok(())
 }
 

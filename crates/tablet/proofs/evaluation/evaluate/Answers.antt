@@ -6,29 +6,29 @@ use Rattle.tablet.specs.Evaluating.{RanValues}
 use Rattle.tablet.specs.Telling.{report_text}
 use Rattle.tablet.proofs.evaluation.evaluate.Goals as goal
 
-pub returns-in-err-values : goal.returns-in-err-values
-returns-in-err-values g c = IfOk-from_err _ _ c.from_residual-in-err-values.ensures.0
+pub returns-in_err-values : goal.returns-in_err-values
+returns-in_err-values g c = IfOk-from_err _ _ c.from_residual-in_err-values.ensures.0
 
-pub returns-in-err-report : goal.returns-in-err-report
-returns-in-err-report g c = IfOk-from_err _ _ c.from_residual-in-err-report.ensures.0
+pub returns-in_err-report : goal.returns-in_err-report
+returns-in_err-report g c = IfOk-from_err _ _ c.from_residual-in_err-report.ensures.0
 
 pub returns-in-Outputs : goal.returns-in-Outputs
 returns-in-Outputs g c =
     let m = g.R.Ring in
     let sheet = c.in-Ok.sheet in
     let outputs = c.in-Outputs.outputs in
-    let ran = subst (λ (v : Values g.row.R.Denot). RanValues m.ring m.meaning sheet c.args.measures.now v) c.in-Outputs.is c.in-ok-values.ensures in
+    let ran = subst (λ (v : Values g.row.R.Denot). RanValues m.ring m.meaning sheet c.args.measures.now v) c.in-Outputs.is c.in_ok-values.ensures in
     record {
       sheet = sheet;
       in_file = c.in-Ok.ensures.answer.0;
       values = vec_items outputs;
       worth = ran;
-      printed = c.in-ok-report.ensures ∙ ap (λ (xs : List g.row.R.Denot). report_text (sheet_steps sheet) (sheet_outputs sheet) (map g.R.Spelled.shows xs)) c.deref.ensures.value;
+      printed = c.in_ok-report.ensures ∙ ap (λ (xs : List g.row.R.Denot). report_text (sheet_steps sheet) (sheet_outputs sheet) (map g.R.Spelled.shows xs)) c.deref.ensures.value;
     }
 
 pub returns : goal.returns
 returns g c =
     let m = g.R.Ring in
     let sheet = c.in-Ok.sheet in
-    let stopped = subst (λ (v : Values g.row.R.Denot). RanValues m.ring m.meaning sheet c.args.measures.now v) c.in-NotRun.is c.in-ok-values.ensures in
+    let stopped = subst (λ (v : Values g.row.R.Denot). RanValues m.ring m.meaning sheet c.args.measures.now v) c.in-NotRun.is c.in_ok-values.ensures in
     (sheet, c.in-Ok.ensures.answer.0, stopped.0, stopped.1)

@@ -16,7 +16,7 @@ line_here outputs items values f d text more value are within shown added =
     added ∙ (λ i. text ++ cond (is_zero (o i)) [] (out_line f (shown i)))
 
 pub loop-f-init : goal.loop-f-init
-loop-f-init g c = no_lines (counts_line (sheet_steps c.args.sheet.now)) (string_bytes c.in-ok-text.text) (formula_line (sheet_outputs c.args.sheet.now) (map g.R.Spelled.shows c.args.values.now)) c.in-ok-text.ensures
+loop-f-init g c = no_lines (counts_line (sheet_steps c.args.sheet.now)) (string_bytes c.in_ok-text.text) (formula_line (sheet_outputs c.args.sheet.now) (map g.R.Spelled.shows c.args.values.now)) c.in_ok-text.ensures
 
 pub loop-f-preserved : goal.loop-f-preserved
 loop-f-preserved g c =
@@ -32,7 +32,7 @@ loop-f-preserved g c =
     let within : f < length values = omega arith in
     lines_more (counts_line (sheet_steps sheet)) (string_bytes c.loop-f.text) (string_bytes c.push_formula.new.text) f (formula_line (sheet_outputs sheet) (map shows values)) c.loop-f.invariant
     (line_here (sheet_outputs sheet) c.outputs-operand-items.result.now (map shows values) f _ (string_bytes c.loop-f.text) (string_bytes c.push_formula.new.text) (shows c.index-values-f.result) are under
-    (ap shows c.index-values-f.is ∙ sym (get_or-map shows values f c.index-values-f.result [] within)) c.in-ok-push_formula.ensures)
+    (ap shows c.index-values-f.is ∙ sym (get_or-map shows values f c.index-values-f.result [] within)) c.in_ok-push_formula.ensures)
 
 pub returns : goal.returns
 returns g c =
