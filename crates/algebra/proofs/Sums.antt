@@ -1,5 +1,5 @@
 -- Laws of sums over lists and over numbers.
-use Rattle.std.proofs.Common.{◌≡◌, ℕ, zero, suc, ◌+◌, ◌*◌, ◌<◌, ◌≤◌, Bool, true, false, cond, not, ◌⊎◌, List, [], ◌∷◌, ◌++◌, map, length, get_or, set, filter, sym, refl, ap, ◌∙◌, subst, ap₂, inl, inr, ⊎_elim, add-zero, add-suc, suc-add, zero_add, arith}
+use Rattle.std.proofs.Common.{◌≡◌, ℕ, zero, suc, ◌+◌, ◌*◌, ◌<◌, ◌≤◌, Bool, true, false, cond, not, ◌⊎◌, List, [], ◌∷◌, ◌++◌, map, length, get_or, set, filter, sym, refl, ap, ◌∙◌, subst, ap₂, inl, inr, ⊎_elim, add-zero, add-suc, suc-add, zero-add, arith}
 use Rattle.std.specs.List.{swap, AllZip, remove, AllByRecursion as All}
 use Rattle.std.specs.List.Sorted.{IsPermutation}
 use Rattle.std.proofs.lemmas.Bool.{cases_eq}
@@ -146,7 +146,7 @@ module _ {M : Type 0} (a : Adding M) where
   total_places f (x ∷ xs) d = ap (a.join (f x)) (total_places f xs d) ∙ sym (up_to_first (length xs) (λ k. f (get_or (x ∷ xs) k d)))
 
   pub repeated_add : (x : M) (m n : ℕ) → repeated a x (m + n) ≡ a.join (repeated a x m) (repeated a x n)
-  repeated_add x zero n = ap (repeated a x) (zero_add n) ∙ sym (neutral_join _)
+  repeated_add x zero n = ap (repeated a x) (zero-add n) ∙ sym (neutral_join _)
   repeated_add x (suc m) n = ap (repeated a x) (suc-add m n) ∙ ap (a.join x) (repeated_add x m n) ∙ sym (a.assoc _ _ _)
 
 -- what respects both sums goes through, as a constant factor does
