@@ -4,7 +4,7 @@ use Rattle.std.proofs.lemmas.List.Sums.{count_by_more_yes, count_by_more_no}
 use Rattle.choosing.specs.Near.{has, shared}
 use Rattle.choosing.proofs.Steps.{blank}
 use Rattle.choosing.proofs.near.count_shared.Goals as goal
-use Rattle.choosing.proofs.near.count_shared.Goals.{then-is-some, else-is-some}
+use Rattle.choosing.proofs.near.count_shared.Goals.{then-is_some, else-is_some}
 
 pub loop-c-preserved : goal.loop-c-preserved
 loop-c-preserved c =

@@ -18,7 +18,7 @@ loop-set-preserved c =
           w.as_slice.ensures.is c.loop-set-test.true two _
           (
           near_taken _ _ _ _ _ _ c.requires.within c.as_slice-columns.ensures.is c.as_slice-columns.ensures.few c.pick-picked.ensures _
-          w.as_slice.ensures.is two _ (c.as_slice-takers.ensures.value ∙ c.in-ok-near.ensures)
+          w.as_slice.ensures.is two _ (c.as_slice-takers.ensures.value ∙ c.in_ok-near.ensures)
           )
           w.weigh.result w.weigh.ensures.at w.weigh.ensures.weighed
           )
