@@ -1,19 +1,18 @@
 -- Column sets of kernels take what factor may take, and their savings are as reckoned.
-use Rattle.std.proofs.Common.{◌≡◌, ℕ, zero, suc, ◌+◌, ◌-◌, ◌*◌, ◌/◌, ◌%◌, ◌<◌, ◌≤◌, Bool, true, false, cond, not, eqb, List, [], ◌∷◌, ◌++◌, map, length, sym, refl, ap, ◌∙◌, subst, ap₂, arith, length-append}
+use Rattle.std.proofs.Common.{◌≡◌, ℕ, zero, suc, ◌+◌, ◌-◌, ◌*◌, ◌/◌, ◌%◌, ◌<◌, ◌≤◌, Bool, true, false, cond, eqb, List, [], ◌∷◌, ◌++◌, map, length, sym, refl, ap₂, arith, length-append}
 use Rattle.std.specs.List.{AllByRecursion as All}
 use Rattle.std.proofs.ByRecursion.{All-get_or, All-weaker}
 use Rattle.std.proofs.lemmas.Bool.{and_from, eq-eqb, or_left, or_right}
 use Rattle.algebra.specs.Counts.{additions, multiplications}
-use Rattle.algebra.specs.Cubes.{Powers, Divides, Same, letters, product, quotient, unit}
+use Rattle.algebra.specs.Cubes.{Powers, Divides, letters, unit}
 use Rattle.algebra.specs.Rows.{Alike, Distinct, Row, divides_test, multiples, quotient_row, quotients}
 use Rattle.algebra.proofs.Apart.{distinct_quotients}
 use Rattle.algebra.proofs.Degrees.{divides_decides}
-use Rattle.rewriting.specs.Choosing.{Candidate, column_set, columns_in, factored_with, kernel_in, named_by, reckoned, saving, taken_with}
-use Rattle.rewriting.specs.Closed.{Closed}
-use Rattle.rewriting.specs.Factor.{Taken, Takes, additions_saved, covered, multiplications_saved, product_row, taken_in}
+use Rattle.rewriting.specs.Choosing.{column_set, columns_in, factored_with, kernel_in, named_by, taken_with}
+use Rattle.rewriting.specs.Factor.{Taken, Takes, additions_saved, multiplications_saved, product_row}
 use Rattle.rewriting.specs.Promises.{CandidatesFair}
 use Rattle.rewriting.specs.Styles.{Style, over, standing}
-use Rattle.rewriting.specs.Taking.{Kernel, alike, found, has_columns, same_below, same_sign, spots, take_of, taken_after, taken_by, takes_next, uncovered}
+use Rattle.rewriting.specs.Taking.{Kernel, alike, found, has_columns, same_below, same_sign, spots, take_of, taken_after, takes_next, uncovered}
 use Rattle.rewriting.proofs.Places.{Other}
 use Rattle.rewriting.proofs.Savings.{factor_saves}
 use Rattle.rewriting.proofs.Takings.{taking_fits}

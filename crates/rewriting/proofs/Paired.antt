@@ -1,8 +1,8 @@
 -- Two rows with a common cube, and cubes that divide two rows.
-use Rattle.std.proofs.Common.{◌≡◌, ℕ, zero, suc, ◌+◌, ◌<◌, ◌≤◌, Bool, true, false, cond, ◌⊎◌, List, [], ◌∷◌, length, sym, refl, ap, ◌∙◌, subst, inl, inr, ⊎_elim, arith}
-use Rattle.std.proofs.lemmas.Bool.{cases_Bool, cases_eq, cases_lt}
+use Rattle.std.proofs.Common.{◌≡◌, ℕ, zero, suc, ◌+◌, ◌<◌, ◌≤◌, Bool, true, false, cond, ◌⊎◌, List, [], ◌∷◌, length, sym, refl, subst, inl, inr, ⊎_elim, arith}
+use Rattle.std.proofs.lemmas.Bool.{cases_eq, cases_lt}
 use Rattle.algebra.specs.Cubes.{Powers, Same, letters}
-use Rattle.algebra.specs.Rows.{Row, cube_in, degree, divides_test}
+use Rattle.algebra.specs.Rows.{Row, cube_in, divides_test}
 use Rattle.algebra.specs.Sums.{counting, up_to}
 use Rattle.algebra.proofs.Sums.{up_to_part}
 use Rattle.algebra.proofs.Degrees.{common_greatest, degree_divisor, degree_same, divides_decides, same_refl}

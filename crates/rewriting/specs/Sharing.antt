@@ -1,6 +1,6 @@
 -- Which cube share takes: of the greatest common cubes, of degree two or more, of two rows anywhere the one that saves most, and among
 -- equals the one of the earliest first row, then second row.
-use Rattle.std.specs.Prelude.{◌≡◌, ℕ, ◌<◌, ◌≤◌, ◌⊎◌, List, length}
+use Rattle.std.specs.Prelude.{◌≡◌, ℕ, ◌<◌, ◌≤◌, ◌⊎◌, length}
 use Rattle.algebra.specs.Cubes.{Powers, common}
 use Rattle.algebra.specs.Rows.{cube_in, degree}
 use Rattle.rewriting.specs.Share.{divided, products_saved}
