@@ -1,5 +1,5 @@
 -- Whether a cube divides another, as a test.
-use Rattle.std.proofs.Common.{◌≡◌, ◌<◌, true, false, ⊎_elim, arith}
+use Rattle.std.proofs.Common.{◌≡◌, true, false, ⊎_elim, arith}
 use Rattle.std.proofs.lemmas.Bool.{cases_Bool}
 use Rattle.algebra.specs.Cubes.{Powers, Divides}
 use Rattle.algebra.specs.Rows.{divides_test}

@@ -4,8 +4,8 @@ use Rattle.std.specs.List.{AllZip}
 use Rattle.std.proofs.lemmas.List.{get_or-set_same, get_or-set_other, get_or-take, length-set, length-take}
 use Rattle.std.proofs.lemmas.Bool.{cases_Bool, cases_eq, cases_lt, cond-true, cond-false}
 use Rattle.std.proofs.lemmas.List.Sums.{count_by_more_yes, count_by_more_no}
-use Rattle.algebra.specs.Cubes.{Powers, Same, Divides, letter, letters, product, quotient}
-use Rattle.algebra.specs.Rows.{Row as Term, Alike, divides_test}
+use Rattle.algebra.specs.Cubes.{Powers, Same, letter, letters, product, quotient}
+use Rattle.algebra.specs.Rows.{Alike, divides_test}
 use Rattle.algebra.proofs.Degrees.{divides_decides, letter_other, letter_own}
 use Rattle.cubes.specs.Powers.{power, Divided, Misses}
 use Rattle.cubes.specs.Rows.{no_row, as_row, as_rows, powers_at, divided_rows, Apart}

@@ -30,7 +30,7 @@ loop-j-preserved-in-Some t c = (
 
 pub loop-j-preserved : goal.loop-j-preserved
 loop-j-preserved t c =
-    ((omega arith), written_skip _ _ _ _ _ _ _ _ _ (omega arith) (omega arith) c.in-default.ensures c.loop-j.invariant.1)
+    ((omega arith), written_skip _ _ _ _ _ _ _ _ _ (omega arith) (omega arith) c.in_default.ensures c.loop-j.invariant.1)
 
 pub returns : goal.returns
 returns t c = written_all _ _ _ _ _ _ _ _ _ _ _ c.requires.own (omega arith) c.put-n.ensures.written c.loop-j.invariant.1

@@ -1,4 +1,4 @@
-use Rattle.std.proofs.Common.{◌≡◌, ℕ, ◌-◌, length, sym, ap, ◌∙◌, rules}
+use Rattle.std.proofs.Common.{◌≡◌, ◌-◌, length, sym, ◌∙◌, rules}
 use Rattle.cubes.specs.Expressions.{rows_of}
 use Rattle.cubes.proofs.Signs.{additions_are}
 use Rattle.cubes.proofs.expression.Expression.additions.Goals as goal

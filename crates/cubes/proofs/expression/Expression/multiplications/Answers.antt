@@ -1,7 +1,6 @@
-use Rattle.std.proofs.Common.{◌≡◌, ℕ, ◌+◌, ◌<◌, List, [], ◌∷◌, ◌++◌, map, length, get_or, take, ap, ◌∙◌, add-zero, arith}
+use Rattle.std.proofs.Common.{◌≡◌, ℕ, ◌+◌, ◌<◌, List, [], ◌∷◌, length, get_or, take, ap, ◌∙◌, add-zero, arith}
 use Rattle.std.proofs.lemmas.List.{take_all, map_more}
 use Rattle.algebra.specs.Counts.{row_multiplications, multiplications}
-use Rattle.algebra.specs.Rows.{Row as Term}
 use Rattle.algebra.proofs.Tallies.{multiplications_append}
 use Rattle.cubes.specs.Rows.{no_row, as_row, as_rows}
 use Rattle.cubes.specs.declared.row.Row.{Row}

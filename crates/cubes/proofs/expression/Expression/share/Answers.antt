@@ -1,4 +1,4 @@
-use Rattle.std.proofs.Common.{◌≡◌, ◌<◌, ◌≤◌, length, take, refl, ◌∙◌, subst, arith}
+use Rattle.std.proofs.Common.{◌≡◌, ◌<◌, ◌≤◌, length, refl, ◌∙◌, subst, arith}
 use Rattle.cubes.specs.Powers.{power}
 use Rattle.cubes.specs.Shares.{Lacks}
 use Rattle.cubes.proofs.Shared.{SharedBefore, next_fresh, shared_all, shared_no, shared_yes, still_apart}
@@ -33,18 +33,20 @@ loop-k-preserved c =
           w.if-divide.ensures.told c.if-divide.n w.n-is
     ]
 
-pub invariant-of-self : goal.invariant-of-self
-invariant-of-self c =
+pub invariant_of-self : goal.invariant_of-self
+invariant_of-self c =
     let e = c.args.self.now in
     let j = c.args.letter in
     let a = power c.args.cube in
     let le : e.len ≤ length e.rows = omega (arith, e.places, e.few) in
     let end : c.loop-k.k ≡ e.len = omega arith in
     let all = subst (λ i. SharedBefore j a e.rows c.loop-k.rows i c.loop-k.n) end c.loop-k.invariant in
-    let fresh = subst (Lacks j) c.rows.ensures.are (c.if-not-lacks.ensures.yes refl) in (
-      c.loop-k.invariant.many ∙ e.places,
-      (e.few, (still_apart j a e.rows c.loop-k.rows e.len c.loop-k.n le all c.if-letter-ge-LETTERS.false fresh e.apart, tt)),
-    )
+    let fresh = subst (Lacks j) c.rows.ensures.are (c.if-not-lacks.ensures.yes refl) in
+    record {
+      places = c.loop-k.invariant.many ∙ e.places;
+      few = e.few;
+      apart = still_apart j a e.rows c.loop-k.rows e.len c.loop-k.n le all c.if-letter-ge-LETTERS.false fresh e.apart;
+    }
 
 pub returns : goal.returns
 returns c =
