@@ -11,7 +11,7 @@ import re
 
 IDENT = r"[A-Za-z_][\w'′-]*"
 TOKEN = re.compile(r"(?<![\w'′◌-])([A-Za-z_][\w'′]*(?:-[\w'′]+)*-?)(?![\w'′-])")
-OLD = re.compile(r"-|′|^up_?[tT]o[-A-Z]|^upTo")
+OLD = re.compile(r"-|′|^up_?[tT]o[-A-Z]|^upTo|^[A-Z][A-Za-z]*_")
 
 # Where the plain turn would fall together with another name of the repository.
 APART = {"No-gain": "GainsNothing", "So-far": "KnownSoFar", "Part-added": "AddsPart", "Nothing-left": "LeavesNothing"}
@@ -22,7 +22,7 @@ def turned(name):
         return APART[name]
     name = name.replace("′", "'")
     if name[0].isupper():
-        return "".join(word[:1].upper() + word[1:] for word in name.split("-"))
+        return "".join(word[:1].upper() + word[1:] for word in re.split("[-_]", name))
     name = name.replace("-", "_")
     return re.sub(r"(?<=[a-z])([A-Z])", lambda m: "_" + m[1].lower(), name)
 
