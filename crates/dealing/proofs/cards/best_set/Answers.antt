@@ -10,7 +10,7 @@ use Rattle.dealing.proofs.cards.best_set.Goals as goal
 pub returns : goal.returns
 returns c =
     let t = c.args.table.now in
-    let dealt = c.in-ok-cards.ensures in
+    let dealt = c.in_ok-cards.ensures in
     let ks = as_kernels c.args.kernels.now in
     IfOk-weaker c.choose.result _ _
     (λ o h. by_rows dealt.names (style_of t) (few_terms t) (distinct_terms t) ks c.as_slice.result.now

@@ -11,17 +11,17 @@ use Rattle.dealing.proofs.Dealts.{grown_none, grown_on, rows_few, rows_more}
 use Rattle.dealing.proofs.Tables.{place_fits}
 use Rattle.dealing.proofs.cards.card_of.Goals as goal
 
-pub overflow-mul-place : goal.overflow-mul-place
-overflow-mul-place c =
+pub overflow_mul-place : goal.overflow_mul-place
+overflow_mul-place c =
     omega (arith, (place_fits c.args.table.now c.args.kernel.now.expression c.loop-k.k c.rows-rows.result.now c.rows-rows.ensures c.loop-k-test.true).0)
 
-pub overflow-add-place : goal.overflow-add-place
-overflow-add-place c =
+pub overflow_add-place : goal.overflow_add-place
+overflow_add-place c =
     let h = place_fits c.args.table.now c.args.kernel.now.expression c.loop-k.k c.rows-rows.result.now c.rows-rows.ensures c.loop-k-test.true in
     omega (arith, h.0, h.1)
 
-pub overflow-cast-place : goal.overflow-cast-place
-overflow-cast-place c =
+pub overflow_cast-place : goal.overflow_cast-place
+overflow_cast-place c =
     let h = place_fits c.args.table.now c.args.kernel.now.expression c.loop-k.k c.rows-rows.result.now c.rows-rows.ensures c.loop-k-test.true in
     omega (arith, h.0, h.1)
 
@@ -40,10 +40,10 @@ append-requires c =
 
 pub loop-k-preserved : goal.loop-k-preserved
 loop-k-preserved c =
-    let adds = c.in-ok-column.ensures in
+    let adds = c.in_ok-column.ensures in
     let more =
     rows_more (named_rows c.loop-k.names) (named_rows c.column_of.new.names) (power c.args.kernel.now.cokernel) (8 * c.args.kernel.now.expression) c.rows-rows.result.now c.loop-k.k _
-    c.loop-k-test.true c.in-ok-column.column (listed c.loop-k.columns) (listed c.append.new.columns) c.loop-k.invariant.0 c.loop-k.invariant.1 adds c.append.ensures in
+    c.loop-k-test.true c.in_ok-column.column (listed c.loop-k.columns) (listed c.append.new.columns) c.loop-k.invariant.0 c.loop-k.invariant.1 adds c.append.ensures in
     (more.0, more.1, grown_on (named_rows c.args.names.now) (named_rows c.loop-k.names) (named_rows c.column_of.new.names) c.loop-k.invariant.2 adds.grown)
 
 pub returns : goal.returns

@@ -11,9 +11,9 @@ pub loop-kernel-preserved : goal.loop-kernel-preserved
 loop-kernel-preserved c =
     subst₂ (Deals (named_rows c.card_of.new.names) (style_of c.args.table.now))
     (sym (map_more as_kernel c.args.kernels.now c.loop-kernel.kernel-index _ c.loop-kernel-test.true))
-    (sym c.in-ok-push.ensures.items)
+    (sym c.in_ok-push.ensures.items)
     (deals_more (named_rows c.loop-kernel.names) (named_rows c.card_of.new.names) (style_of c.args.table.now) (as_kernels (take c.loop-kernel.kernel-index c.args.kernels.now))
-    (vec_items c.loop-kernel.cards) _ c.in-ok-card.card c.loop-kernel.invariant c.in-ok-card.ensures)
+    (vec_items c.loop-kernel.cards) _ c.in_ok-card.card c.loop-kernel.invariant c.in_ok-card.ensures)
 
 pub returns : goal.returns
 returns c = record {

@@ -2,7 +2,7 @@ use Rattle.std.proofs.Common.{◌+◌, vec_items, vec_len, ap, ◌∙◌, arith}
 use Rattle.cubes.specs.Powers.{power}
 use Rattle.factoring.proofs.Namings.{at_end, moved, turn_in, turn_out, turn_none}
 use Rattle.factoring.proofs.columns.named_columns.Goals as goal
-use Rattle.factoring.proofs.columns.named_columns.Goals.{in-Some, in-default, then-number-eq1+in-ok-push, else-number-eq1}
+use Rattle.factoring.proofs.columns.named_columns.Goals.{in-Some, in-default, then-number-eq1+in_ok-push, else-number-eq1}
 
 pub loop-row-preserved : goal.loop-row-preserved
 loop-row-preserved c =
@@ -14,8 +14,8 @@ loop-row-preserved c =
     let old = vec_items c.loop-row.columns in
     elim c.match-column_of.branch [
       | in-Some w ↦ elim w.if-number-eq1.branch [
-        | then-number-eq1+in-ok-push v ↦
-            let p = v.in-ok-push.ensures in
+        | then-number-eq1+in_ok-push v ↦
+            let p = v.in_ok-push.ensures in
             let e = w.columns-is ∙ v.columns-is in (
               moved a c.args.set xs _ _ (i + 1) _ _ w.number-is (ap vec_items e ∙ p.items)
                   (turn_in a c.args.set xs n i old h c.loop-row.invariant.0 w.in-Some.column w.in-Some.ensures.0 w.in-Some.ensures.1 v.if-number-eq1.true),

@@ -18,11 +18,11 @@ pub returns-in-Ok : goal.returns-in-Ok
 returns-in-Ok c =
     let part : Same (power c.in-Some.letter) (letter (standing_in c.args.table.now)) = search rules in
     let all : AllAnew (minus c.common_sign-sign.result) (power c.in-Some.letter) (as_takens c.args.taken.now) c.args.table.now c.in-Some-2.anew = search rules in
-    let rows = ap as_rows (c.in-Ok.ensures ∙ c.as_slice.ensures.value) ∙ c.in-ok-rows.ensures in
+    let rows = ap as_rows (c.in-Ok.ensures ∙ c.as_slice.ensures.value) ∙ c.in_ok-rows.ensures in
     factors c.args.table.now (as_rows c.args.columns.now) (as_takens c.args.taken.now) (minus c.common_sign-sign.result) (power c.in-Some.letter) c.common_sign-sign.ensures part
     c.in-Some-2.anew c.add_part.result _ rows all c.add_part.ensures
 
 pub returns : goal.returns
 returns c =
     part_unmade c.args.table.now (as_rows c.args.columns.now) (as_takens c.args.taken.now) c.as_slice.result.now c.in-Err.field-0
-    (ap as_rows c.as_slice.ensures.value ∙ c.in-ok-rows.ensures) c.in-Err.ensures
+    (ap as_rows c.as_slice.ensures.value ∙ c.in_ok-rows.ensures) c.in-Err.ensures

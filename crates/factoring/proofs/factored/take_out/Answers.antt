@@ -15,18 +15,18 @@ pub take_all-requires : goal.take_all-requires
 take_all-requires c =
     let e = (get_or c.args.kernels.now c.args.place no_kernel).expression in
     let d : length c.rows.result.now ≡ length (rows_at c.args.table.now e) = ap length c.rows.ensures in
-    omega (arith, d, c.in-ok-columns.ensures.few, c.as_slice.ensures.len, few_rows c.args.table.now e)
+    omega (arith, d, c.in_ok-columns.ensures.few, c.as_slice.ensures.len, few_rows c.args.table.now e)
 
 pub returns-in-Some : goal.returns-in-Some
 returns-in-Some c =
     let t = c.args.table.now in
     let ks = c.args.kernels.now in
-    let xs = vec_items c.in-ok-columns.columns in
-    let ts = vec_items c.in-ok-taken.taken in
+    let xs = vec_items c.in_ok-columns.columns in
+    let ts = vec_items c.in_ok-taken.taken in
     let h = c.if-place-kernels.false in
-    let a = set_alike t ks c.args.place c.args.set h xs c.rows.result.now c.rows.ensures c.in-ok-columns.ensures.named in
+    let a = set_alike t ks c.args.place c.args.set h xs c.rows.result.now c.rows.ensures c.in_ok-columns.ensures.named in
     let b : as_takens ts ≡ taken_by (style_of t) (as_rows xs) (as_kernels ks)
-    = c.in-ok-taken.ensures ∙ ap (λ (ys : List Row). taken_by (style_of t) (as_rows ys) (as_kernels ks)) c.as_slice.ensures.value in
+    = c.in_ok-taken.ensures ∙ ap (λ (ys : List Row). taken_by (style_of t) (as_rows ys) (as_kernels ks)) c.as_slice.ensures.value in
     let k : Factors t (as_rows c.as_slice-2.result.now) (as_takens c.as_slice-3.result.now) c.in-Some.next = search rules in
     takes_out t ks c.args.place c.args.set h (as_rows xs) (as_takens ts) a b _
     (subst₂ (λ (ys : List Row) (us : List TakenKernel). Factors t (as_rows ys) (as_takens us) c.in-Some.next) c.as_slice-2.ensures.value c.as_slice-3.ensures.value k)
@@ -37,12 +37,12 @@ pub returns : goal.returns
 returns c =
     let t = c.args.table.now in
     let ks = c.args.kernels.now in
-    let xs = vec_items c.in-ok-columns.columns in
-    let ts = vec_items c.in-ok-taken.taken in
+    let xs = vec_items c.in_ok-columns.columns in
+    let ts = vec_items c.in_ok-taken.taken in
     let h = c.if-place-kernels.false in
-    let a = set_alike t ks c.args.place c.args.set h xs c.rows.result.now c.rows.ensures c.in-ok-columns.ensures.named in
+    let a = set_alike t ks c.args.place c.args.set h xs c.rows.result.now c.rows.ensures c.in_ok-columns.ensures.named in
     let b : as_takens ts ≡ taken_by (style_of t) (as_rows xs) (as_kernels ks)
-    = c.in-ok-taken.ensures ∙ ap (λ (ys : List Row). taken_by (style_of t) (as_rows ys) (as_kernels ks)) c.as_slice.ensures.value in
+    = c.in_ok-taken.ensures ∙ ap (λ (ys : List Row). taken_by (style_of t) (as_rows ys) (as_kernels ks)) c.as_slice.ensures.value in
     let k : Unfactored t (as_rows c.as_slice-2.result.now) (as_takens c.as_slice-3.result.now) = search rules in
     untaken t ks c.args.place c.args.set h (as_rows xs) (as_takens ts) a b
     (subst₂ (λ (ys : List Row) (us : List TakenKernel). Unfactored t (as_rows ys) (as_takens us)) c.as_slice-2.ensures.value c.as_slice-3.ensures.value k)

@@ -10,7 +10,7 @@ pub loop-row-preserved : goal.loop-row-preserved
 loop-row-preserved c =
     let xs = c.args.columns.now in
     let i = c.loop-row.row-index in
-    ap as_rows c.in-ok-push.ensures.items ∙ map_push as_row (vec_items c.loop-row.rows) _
+    ap as_rows c.in_ok-push.ensures.items ∙ map_push as_row (vec_items c.loop-row.rows) _
     ∙ ap (λ (ys : List Term). ys ++ positive (as_row (get_or xs i no_row)) ∷ []) c.loop-row.invariant
     ∙ sym (ap (map positive) (map_more as_row xs i no_row c.loop-row-test.true) ∙ map_push positive (as_rows (take i xs)) (as_row (get_or xs i no_row)))
 

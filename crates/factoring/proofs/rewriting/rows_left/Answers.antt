@@ -7,7 +7,7 @@ use Rattle.rewriting.specs.Factor.{covered, has, taken_in}
 use Rattle.factoring.specs.Takens.{as_takens}
 use Rattle.factoring.proofs.Rests.{still, still_end, still_in, still_out}
 use Rattle.factoring.proofs.rewriting.rows_left.Goals as goal
-use Rattle.factoring.proofs.rewriting.rows_left.Goals.{then-not-is-covered+in-ok-push, else-not-is-covered}
+use Rattle.factoring.proofs.rewriting.rows_left.Goals.{then-not-is-covered+in_ok-push, else-not-is-covered}
 
 pub loop-k-preserved : goal.loop-k-preserved
 loop-k-preserved c =
@@ -16,8 +16,8 @@ loop-k-preserved c =
     let k = c.loop-k.k in
     let h = c.loop-k-test.true in
     elim c.if-not-is_covered.branch [
-      | then-not-is_covered+in-ok-push w ↦
-          ap (λ (ys : List Row). as_rows ys ++ still gone xs (k + 1)) (ap vec_items w.rest-is ∙ w.in-ok-push.ensures.items)
+      | then-not-is_covered+in_ok-push w ↦
+          ap (λ (ys : List Row). as_rows ys ++ still gone xs (k + 1)) (ap vec_items w.rest-is ∙ w.in_ok-push.ensures.items)
           ∙ still_in gone xs k h (sym w.if-not-is_covered.ensures) (vec_items c.loop-k.rest) ∙ c.loop-k.invariant
       | else-not-is_covered w ↦
           ap (λ (ys : List Row). as_rows ys ++ still gone xs (k + 1)) (ap vec_items w.rest-is)

@@ -3,8 +3,8 @@ use Rattle.cubes.specs.Rows.{as_rows}
 use Rattle.factoring.proofs.Looks.{taken_from}
 use Rattle.factoring.proofs.taking.look.Goals as goal
 
-pub returns-in-ok-push : goal.returns-in-ok-push
-returns-in-ok-push c =
+pub returns-in_ok-push : goal.returns-in_ok-push
+returns-in_ok-push c =
     let o = c.in-Some.ensures in
     taken_from c.args.table.now (as_rows c.args.columns.now) c.args.kernel c.in-Some.places c.rows-rows.result.now c.as_slice.result.now (vec_items c.args.taken.now) _
-    c.rows-rows.ensures c.as_slice.ensures.value c.in-ok-push.ensures.items o.0 o.1
+    c.rows-rows.ensures c.as_slice.ensures.value c.in_ok-push.ensures.items o.0 o.1

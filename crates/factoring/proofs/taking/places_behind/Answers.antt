@@ -9,11 +9,11 @@ use Rattle.factoring.specs.Takens.{all_open, as_takens, listed}
 use Rattle.factoring.proofs.Looks.{open_more, open_less, spots_more}
 use Rattle.factoring.proofs.taking.places_behind.Goals as goal
 
-pub returns-in-err-k : goal.returns-in-err-k
-returns-in-err-k c =
+pub returns-in_err-k : goal.returns-in_err-k
+returns-in_err-k c =
     rw c.from_residual.ensures (sym c.loop-i.invariant.0
     ∙ open_less (as_rows c.args.rows.now) (power c.args.cokernel) (covered (taken_in c.args.e (as_takens c.args.taken.now))) c.args.columns.now c.loop-i.i c.loop-i-test.true
-    c.in-err-k.ensures)
+    c.in_err-k.ensures)
 
 pub loop-i-preserved : goal.loop-i-preserved
 loop-i-preserved c =
@@ -23,10 +23,10 @@ loop-i-preserved c =
     let xs = c.args.columns.now in
     let i = c.loop-i.i in
     let h = c.loop-i-test.true in
-    let o = c.in-ok-k.ensures in (
+    let o = c.in_ok-k.ensures in (
       open_more rs a gone xs i h o.0 ∙ c.loop-i.invariant.0,
-      ap (λ (ps : List ℕ). ps ++ spots rs a (as_rows (drop (i + 1) xs))) c.push.ensures ∙ spots_more rs a gone xs i h (listed c.loop-i.places) c.in-ok-k.k o.1 ∙ c.loop-i.invariant.1,
-      ap length c.push.ensures ∙ omega (arith, length_push (listed c.loop-i.places) c.in-ok-k.k, c.loop-i.invariant.2),
+      ap (λ (ps : List ℕ). ps ++ spots rs a (as_rows (drop (i + 1) xs))) c.push.ensures ∙ spots_more rs a gone xs i h (listed c.loop-i.places) c.in_ok-k.k o.1 ∙ c.loop-i.invariant.1,
+      ap length c.push.ensures ∙ omega (arith, length_push (listed c.loop-i.places) c.in_ok-k.k, c.loop-i.invariant.2),
     )
 
 pub returns : goal.returns

@@ -9,9 +9,9 @@ use Rattle.factoring.proofs.Looks.{taken_more}
 use Rattle.factoring.proofs.taking.take_all.Goals as goal
 
 pub loop-k-preserved : goal.loop-k-preserved
-loop-k-preserved c = let a = c.in-ok-look.ensures in
+loop-k-preserved c = let a = c.in_ok-look.ensures in
     taken_more (style_of c.args.table.now) (as_rows c.args.columns.now) c.args.kernels.now c.loop-k.k (as_takens (vec_items c.loop-k.taken)) _ c.loop-k-test.true
-    c.in-ok-look.ensures ∙ c.loop-k.invariant
+    c.in_ok-look.ensures ∙ c.loop-k.invariant
 
 pub returns : goal.returns
 returns c =

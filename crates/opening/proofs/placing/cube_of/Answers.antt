@@ -6,8 +6,8 @@ use Rattle.opening.proofs.placing.cube_of.Goals as goal
 pub loop-l-init : goal.loop-l-init
 loop-l-init c = (omega arith, (λ k h. absurd (omega arith)), λ k _ h. get_or-replicate 32 k 0 0 h)
 
-pub overflow-cast-all : goal.overflow-cast-all
-overflow-cast-all c = omega (arith, power_within c.args.powers.now c.loop-l.l, c.requires.light)
+pub overflow_cast-all : goal.overflow_cast-all
+overflow_cast-all c = omega (arith, power_within c.args.powers.now c.loop-l.l, c.requires.light)
 
 pub returns-then-magnitude-ge2 : goal.returns-then-magnitude-ge2
 returns-then-magnitude-ge2 c l h =

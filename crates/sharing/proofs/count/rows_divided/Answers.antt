@@ -8,8 +8,8 @@ use Rattle.sharing.proofs.count.rows_divided.Goals as goal
 pub loop-e-init : goal.loop-e-init
 loop-e-init c = (sym (up_to_none counting _), omega arith)
 
-pub overflow-add-n : goal.overflow-add-n
-overflow-add-n c =
+pub overflow_add-n : goal.overflow_add-n
+overflow_add-n c =
     let few = few_divided c.args.table.now (power c.args.cube) c.loop-e.e c.divided_rows-n.result c.rows.result.now c.rows.ensures c.divided_rows-n.ensures in
     omega (arith, few, c.loop-e.invariant.1, c.standing-e-end.ensures, c.args.table.now.few)
 

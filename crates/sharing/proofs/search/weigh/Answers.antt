@@ -7,14 +7,14 @@ use Rattle.sharing.specs.Pairs.{spot}
 use Rattle.sharing.proofs.Rows.{common_there, row_small, row_there, saved_from}
 use Rattle.sharing.proofs.search.weigh.Goals as goal
 
-pub offset-bounds-rows-first : goal.offset-bounds-rows-first
-offset-bounds-rows-first c = omega (arith, row_small c.args.table.now (spot c.args.first) c.requires.first)
+pub offset_bounds-rows-first : goal.offset_bounds-rows-first
+offset_bounds-rows-first c = omega (arith, row_small c.args.table.now (spot c.args.first) c.requires.first)
 
 pub bounds-rows-first : goal.bounds-rows-first
 bounds-rows-first c = row_there c.args.table.now (spot c.args.first) c.requires.first c.rows.result.now c.rows.ensures
 
-pub offset-bounds-rows-second : goal.offset-bounds-rows-second
-offset-bounds-rows-second c = omega (arith, row_small c.args.table.now (spot c.args.second) c.requires.second)
+pub offset_bounds-rows-second : goal.offset_bounds-rows-second
+offset_bounds-rows-second c = omega (arith, row_small c.args.table.now (spot c.args.second) c.requires.second)
 
 pub bounds-rows-second : goal.bounds-rows-second
 bounds-rows-second c = row_there c.args.table.now (spot c.args.second) c.requires.second c.rows-2.result.now c.rows-2.ensures

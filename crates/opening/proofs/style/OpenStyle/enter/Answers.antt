@@ -11,51 +11,51 @@ use Rattle.opening.proofs.Numerals.{place_within}
 use Rattle.opening.proofs.Outcomes.{lacking, noted_next, refused, taken}
 use Rattle.opening.proofs.style.OpenStyle.enter.Goals as goal
 
-pub returns-in-err-magnitude : goal.returns-in-err-magnitude
-returns-in-err-magnitude c =
+pub returns-in_err-magnitude : goal.returns-in_err-magnitude
+returns-in_err-magnitude c =
     let p = err_from_is_err_and c.from_residual.result c.from_residual.ensures.1 in
-    let why = c.in-err-magnitude.field-0.0 in
+    let why = c.in_err-magnitude.field-0.0 in
     let always = subst (λ (z : ℤ). AlwaysRefused why (term_of c.args.formula z c.args.powers.now))
-    (to_z-of_z w64 c.args.coefficient c.ranges.coefficient) c.in-err-magnitude.ensures in
+    (to_z-of_z w64 c.args.coefficient c.ranges.coefficient) c.in_err-magnitude.ensures in
     refused c.args.self.now (term_of c.args.formula c.args.coefficient c.args.powers.now) c.from_residual.result why (cc) (λ offered _. always (accepted offered))
 
 pub cube_of-cube-requires : goal.cube_of-cube-requires
 cube_of-cube-requires c =
-    let a = c.in-ok-magnitude.ensures.0 in
+    let a = c.in_ok-magnitude.ensures.0 in
     let held = c.args.self.now.table.numerals in
     let ns = numerals_list held in
-    let m = c.in-ok-magnitude.magnitude in
+    let m = c.in_ok-magnitude.magnitude in
     let at : c.place_of-place.result ≡ place ns m = c.place_of-place.ensures ∙ ap (λ (xs : List ℕ). place xs m) c.as_slice.ensures in
     record { eight = a.eight; light = a.light; room = omega (arith, at, place_within ns m, length_numerals held, held.few) }
 
-pub returns-in-err-check_room : goal.returns-in-err-check_room
-returns-in-err-check_room c =
-    let m = c.in-ok-magnitude.magnitude in
+pub returns-in_err-check_room : goal.returns-in_err-check_room
+returns-in_err-check_room c =
+    let m = c.in_ok-magnitude.magnitude in
     let checked = subst (λ (z : ℤ). Admissible (term_of c.args.formula z c.args.powers.now) × (m ≡ nat_abs z))
-    (to_z-of_z w64 c.args.coefficient c.ranges.coefficient) c.in-ok-magnitude.ensures in
-    let p = err_from_is_err_and c.from_residual-in-err-check_room.result c.from_residual-in-err-check_room.ensures.1 in
+    (to_z-of_z w64 c.args.coefficient c.ranges.coefficient) c.in_ok-magnitude.ensures in
+    let p = err_from_is_err_and c.from_residual-in_err-check_room.result c.from_residual-in_err-check_room.ensures.1 in
     lacking c.args.self.now (term_of c.args.formula c.args.coefficient c.args.powers.now) checked.0 m c.place_of-place.result checked.1
     (c.place_of-place.ensures ∙ ap (λ (xs : List ℕ). place xs m) c.as_slice.ensures) c.cube_of-cube.result c.cube_of-cube.ensures
-    c.from_residual-in-err-check_room.result c.in-err-check_room.field-0.0 (cc) c.in-err-check_room.ensures
+    c.from_residual-in_err-check_room.result c.in_err-check_room.field-0.0 (cc) c.in_err-check_room.ensures
 
-pub invariant-of-self : goal.invariant-of-self
-invariant-of-self c =
-    let m = c.in-ok-magnitude.magnitude in
+pub invariant_of-self : goal.invariant_of-self
+invariant_of-self c =
+    let m = c.in_ok-magnitude.magnitude in
     let z = to_z-of_z w64 c.args.coefficient c.ranges.coefficient in
-    let checked = subst (λ (n : ℤ). Admissible (term_of c.args.formula n c.args.powers.now) × (m ≡ nat_abs n)) z c.in-ok-magnitude.ensures in (
+    let checked = subst (λ (n : ℤ). Admissible (term_of c.args.formula n c.args.powers.now) × (m ≡ nat_abs n)) z c.in_ok-magnitude.ensures in (
       noted_next c.args.self.now (term_of c.args.formula c.args.coefficient c.args.powers.now) checked.0 m c.place_of-place.result checked.1
           (c.place_of-place.ensures ∙ ap (λ (xs : List ℕ). place xs m) c.as_slice.ensures) c.cube_of-cube.result c.cube_of-cube.ensures
-          c.in-ok-check_room.ensures c.sign_of.result (c.sign_of.ensures ∙ ap (λ (n : ℤ). not (non_neg n)) z)
+          c.in_ok-check_room.ensures c.sign_of.result (c.sign_of.ensures ∙ ap (λ (n : ℤ). not (non_neg n)) z)
           c.add_row.new.table c.hold_numeral.new.table c.add_row.ensures c.hold_numeral.ensures,
       tt,
     )
 
 pub returns : goal.returns
 returns c =
-    let m = c.in-ok-magnitude.magnitude in
+    let m = c.in_ok-magnitude.magnitude in
     let z = to_z-of_z w64 c.args.coefficient c.ranges.coefficient in
-    let checked = subst (λ (n : ℤ). Admissible (term_of c.args.formula n c.args.powers.now) × (m ≡ nat_abs n)) z c.in-ok-magnitude.ensures in
+    let checked = subst (λ (n : ℤ). Admissible (term_of c.args.formula n c.args.powers.now) × (m ≡ nat_abs n)) z c.in_ok-magnitude.ensures in
     taken c.args.self.now (term_of c.args.formula c.args.coefficient c.args.powers.now) checked.0 m c.place_of-place.result checked.1
     (c.place_of-place.ensures ∙ ap (λ (xs : List ℕ). place xs m) c.as_slice.ensures) c.cube_of-cube.result c.cube_of-cube.ensures
-    c.in-ok-check_room.ensures c.sign_of.result (c.sign_of.ensures ∙ ap (λ (n : ℤ). not (non_neg n)) z)
+    c.in_ok-check_room.ensures c.sign_of.result (c.sign_of.ensures ∙ ap (λ (n : ℤ). not (non_neg n)) z)
     c.add_row.new.table c.hold_numeral.new.table c.add_row.ensures c.hold_numeral.ensures _ refl refl

@@ -25,7 +25,7 @@ loop-e-preserved c =
         add = more additions _ _ c.loop-e.invariant.0.add (c.additions.ensures ∙ ap additions here);
         neg = more negations _ _ c.loop-e.invariant.0.neg (c.negations.ensures ∙ ap negations here);
       },
-      omega (arith, c.loop-e.invariant.1, c.multiplications.type-inv),
-      omega (arith, c.loop-e.invariant.2, c.additions.type-inv),
-      omega (arith, c.loop-e.invariant.3, c.negations.type-inv),
+      omega (arith, c.loop-e.invariant.1, c.multiplications.type_inv),
+      omega (arith, c.loop-e.invariant.2, c.additions.type_inv),
+      omega (arith, c.loop-e.invariant.3, c.negations.type_inv),
     )
