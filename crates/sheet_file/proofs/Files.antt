@@ -1,18 +1,14 @@
 -- A file's header and its sections.
-use Rattle.std.proofs.Common.{◌≡◌, ℕ, zero, suc, ◌+◌, ◌-◌, ◌*◌, ◌/◌, ◌%◌, ◌<◌, ◌≤◌, true, List, [], ◌∷◌, ◌++◌, length, get_or, take, drop, sym, refl, ap, ◌∙◌, subst, subst₂, ⊎_elim, arith, lit<, lit≤}
+use Rattle.std.proofs.Common.{◌≡◌, ℕ, ◌+◌, ◌-◌, ◌*◌, ◌/◌, ◌%◌, ◌<◌, ◌≤◌, List, [], ◌∷◌, ◌++◌, length, get_or, take, drop, sym, refl, ap, ◌∙◌, arith}
 use Rattle.std.specs.List.{between, flat_map}
 use Rattle.std.proofs.lemmas.List.{length-append, length-drop, length-take-le, take_all, take_at, drop_at, drop-drop, take-append-drop}
 use Rattle.sheet.specs.declared.operand.Operand.{Operand}
-use Rattle.sheet.specs.declared.operand.Operand.TheVariants.{Zero}
-use Rattle.sheet.specs.declared.operation.Operation.TheVariants.{Add}
-use Rattle.sheet.specs.declared.refusal.Refusal.{Refusal}
-use Rattle.sheet.specs.declared.refusal.Refusal.TheVariants.{Layout, ShortBuffer, SmallNumeral, IllegalStep, IllegalOutput}
 use Rattle.sheet.specs.declared.step.Step.{Step}
 use Rattle.sheet.specs.Parts.{Lawful}
 use Rattle.sheet_file.specs.Bytes.{word_bytes, step_bytes, output_bytes}
 use Rattle.sheet_file.specs.File.{steps_start, outputs_start, file_length, header_bytes, file_bytes}
-use Rattle.sheet_file.specs.Reading.{word_at, Version, NumeralsPair, StepsPair, OutputsPair, Laid_out, BrokenLayout, numerals_part, steps_part, outputs_part, NumeralEntry, StepEntry, OutputEntry, AllGood, FirstBad, RefusedAt}
-use Rattle.sheet_file.proofs.Rows.{length_row, all_good}
+use Rattle.sheet_file.specs.Reading.{word_at, Laid_out, numerals_part, steps_part, outputs_part}
+use Rattle.sheet_file.proofs.Rows.{length_row}
 
 -- how long the sections and the file are
 pub length_file : (ns : List ℕ) (ss : List Step) (os : List Operand) → length (file_bytes ns ss os) ≡ 13 + 2 * length ns + 5 * length ss + 2 * length os

@@ -1,5 +1,5 @@
 -- The bytes of a sheet's file.
-use Rattle.std.specs.Prelude.{ℕ, ◌+◌, ◌*◌, List, [], ◌∷◌, ◌++◌, length}
+use Rattle.std.specs.Prelude.{ℕ, ◌+◌, ◌*◌, List, ◌∷◌, ◌++◌, length}
 use Rattle.std.specs.List.{flat_map}
 use Rattle.sheet.specs.declared.operand.Operand.{Operand}
 use Rattle.sheet.specs.declared.step.Step.{Step}

@@ -1,4 +1,4 @@
-use Rattle.std.proofs.Common.{◌≡◌, ℕ, List, sym, refl, ◌∙◌, subst, rules}
+use Rattle.std.proofs.Common.{ℕ, List, refl, ◌∙◌, subst}
 use Rattle.sheet_file.specs.Reading.{FirstBad, StepEntry, OutputEntry, AllGood}
 use Rattle.sheet_file.proofs.Known.{numerals_good}
 use Rattle.sheet_file.proofs.reading.check.Goals as goal
@@ -22,7 +22,7 @@ returns-in-Ok-read_outputs c =
     record {
       opened = record { layout = c.in-Ok.ensures; fits = c.if-room-used.false };
       numerals = c.in-Ok-read_numerals.ensures ∙ c.section.ensures.value;
-      steps = subst (λ (xs : List ℕ). AllGood 5 (StepEntry held) xs) c.section-2.ensures.value c.in-default.ensures;
+      steps = subst (λ (xs : List ℕ). AllGood 5 (StepEntry held) xs) c.section-2.ensures.value c.in_default.ensures;
       outputs = read.1 ∙ c.section-3.ensures.value;
       sixteen = read.0;
       exist = read.2;
@@ -39,6 +39,6 @@ returns-in-Err-read_outputs c =
       record { layout = c.in-Ok.ensures; fits = c.if-room-used.false },
       refl,
       numerals_good c.in-Ok-read_numerals.numerals _ (c.in-Ok-read_numerals.ensures ∙ c.section.ensures.value),
-      subst (λ (xs : List ℕ). AllGood 5 (StepEntry held) xs) c.section-2.ensures.value c.in-default.ensures,
+      subst (λ (xs : List ℕ). AllGood 5 (StepEntry held) xs) c.section-2.ensures.value c.in_default.ensures,
       subst (λ (xs : List ℕ). FirstBad 2 (OutputEntry held used) xs at) c.section-3.ensures.value c.in-Err-read_outputs.ensures,
     )

@@ -1,7 +1,6 @@
-use Rattle.std.proofs.Common.{◌≡◌, ℕ, ◌+◌, ◌*◌, ◌<◌, ◌≤◌, List, length, get_or, take, drop, vec_items, sym, refl, ap, ◌∙◌, subst, subst₂, arith, rules}
+use Rattle.std.proofs.Common.{◌≡◌, ℕ, ◌*◌, ◌<◌, ◌≤◌, List, length, get_or, take, drop, sym, refl, ap, ◌∙◌, subst, subst₂, arith, rules}
 use Rattle.std.proofs.lemmas.List.{with_items_is, length-take-le}
 use Rattle.sheet.specs.declared.step.Step.{Step}
-use Rattle.sheet.specs.Making.{Made, Broken}
 use Rattle.sheet.specs.Numerals.{numerals_list}
 use Rattle.sheet.specs.Parts.{sheet_numerals, sheet_steps, sheet_outputs}
 use Rattle.sheet_file.specs.Bytes.{word_bytes, step_bytes, output_bytes}

@@ -1,5 +1,4 @@
 use Rattle.std.proofs.Common.{◌≡◌, ℕ, ◌+◌, ◌*◌, ◌<◌, ◌≤◌, true, List, [], ◌∷◌, ◌++◌, length, get_or, take, drop, set, sym, refl, ap, ◌∙◌, subst, arith, rules}
-use Rattle.sheet.specs.declared.step.Step.{Step}
 use Rattle.std.specs.List.{flat_map}
 use Rattle.std.proofs.lemmas.List.{take_rest, length-take-le, length-drop}
 use Rattle.sheet.specs.Legal.{legal_step, LegalSteps}
@@ -8,8 +7,8 @@ use Rattle.sheet_file.specs.Reading.{StepEntry, entry}
 use Rattle.sheet_file.proofs.Rows.{five_first, entry_here, row_more_set, row_all, below_set, behind_more}
 use Rattle.sheet_file.proofs.sections.fill_steps.Goals as goal
 
-pub returns-in-default-step_entry : goal.returns-in-default-step_entry
-returns-in-default-step_entry c =
+pub returns-in_default-step_entry : goal.returns-in_default-step_entry
+returns-in_default-step_entry c =
     let left = c.loop-left.left.now in
     let n = c.loop-left.n in
     let buffer = c.loop-left.buffer in
@@ -20,7 +19,7 @@ returns-in-default-step_entry c =
     let here = entry_here step_bytes 5 (λ s. refl) (take n buffer) left section c.loop-left.invariant.1 in
     let first : take 5 left ≡ get_or left 0 0 ∷ get_or left 1 0 ∷ get_or left 2 0 ∷ get_or left 3 0 ∷ get_or left 4 0 ∷ [] = ap (take 5) (five_first left long) in
     let good = c.requires.good n (omega (arith, c.loop-left.invariant.0)) in
-    absurd (c.in-default-step_entry.ensures (subst (StepEntry c.args.held n) (ap (entry 5 section) (sym many) ∙ here ∙ first) good))
+    absurd (c.in_default-step_entry.ensures (subst (StepEntry c.args.held n) (ap (entry 5 section) (sym many) ∙ here ∙ first) good))
 
 pub loop-left-preserved : goal.loop-left-preserved
 loop-left-preserved c =

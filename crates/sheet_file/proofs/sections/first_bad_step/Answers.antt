@@ -1,4 +1,4 @@
-use Rattle.std.proofs.Common.{◌≡◌, ℕ, ◌+◌, ◌*◌, ◌<◌, ◌≤◌, List, [], ◌∷◌, length, get_or, take, drop, sym, refl, ap, ◌∙◌, subst, arith, rules, below_more}
+use Rattle.std.proofs.Common.{◌≡◌, ℕ, ◌+◌, ◌*◌, ◌<◌, ◌≤◌, List, [], ◌∷◌, length, get_or, take, drop, sym, ap, ◌∙◌, subst, arith, rules, below_more}
 use Rattle.std.proofs.lemmas.List.{take_rest, length-drop, drop-drop}
 use Rattle.sheet_file.specs.Reading.{StepEntry, entry}
 use Rattle.sheet_file.proofs.Rows.{five_first}
@@ -8,8 +8,8 @@ use Rattle.sheet_file.proofs.sections.first_bad_step.Goals as goal
 first : (n : ℕ) (section left : List ℕ) → drop (5 * n) section ≡ left → 5 ≤ length left → entry 5 section n ≡ get_or left 0 0 ∷ get_or left 1 0 ∷ get_or left 2 0 ∷ get_or left 3 0 ∷ get_or left 4 0 ∷ []
 first n section left here long = ap (take 5) (here ∙ five_first left long)
 
-pub returns-in-default-step_entry : goal.returns-in-default-step_entry
-returns-in-default-step_entry c =
+pub returns-in_default-step_entry : goal.returns-in_default-step_entry
+returns-in_default-step_entry c =
     let left = c.loop-left.left.now in
     let n = c.loop-left.n in
     let section = c.args.section.now in
@@ -20,7 +20,7 @@ returns-in-default-step_entry c =
       place = omega arith;
       within = omega arith;
       before = c.loop-left.invariant.2;
-      bad = λ good. c.in-default-step_entry.ensures (subst (StepEntry c.args.held n) (first n section left c.loop-left.invariant.1 long) good);
+      bad = λ good. c.in_default-step_entry.ensures (subst (StepEntry c.args.held n) (first n section left c.loop-left.invariant.1 long) good);
     }
 
 pub loop-left-preserved : goal.loop-left-preserved

@@ -1,6 +1,6 @@
 use Rattle.std.proofs.Common.{◌≡◌, ℕ, ◌+◌, ◌*◌, ◌<◌, ◌≤◌, List, [], ◌∷◌, ◌++◌, length, get_or, take, drop, sym, refl, ap, ◌∙◌, subst, subst₂, arith, rules}
 use Rattle.std.specs.List.{flat_map}
-use Rattle.std.proofs.lemmas.List.{take_rest, length-drop, length-append}
+use Rattle.std.proofs.lemmas.List.{take_rest, length-append}
 use Rattle.sheet.specs.Numerals.{numerals_list}
 use Rattle.sheet.proofs.Rules.{numerals_large}
 use Rattle.sheet_file.specs.Bytes.{word_bytes}
@@ -16,8 +16,8 @@ long_row xs left section whole =
     let e = ap length whole in
     omega arith
 
-pub overflow-sub-result : goal.overflow-sub-result
-overflow-sub-result c =
+pub overflow_sub-result : goal.overflow_sub-result
+overflow_sub-result c =
     let e = long_row (numerals_list c.loop-left.numerals) c.loop-left.left.now c.args.section.now c.loop-left.invariant in
     omega arith
 
@@ -48,7 +48,7 @@ loop-left-preserved c =
     let lo : get_or left 0 0 < 256 = search rules in
     let split : left ≡ word_bytes n ++ drop 2 left = two_first left long ∙ ap (λ (bs : List ℕ). bs ++ drop 2 left) (sym (number_bytes n (get_or left 0 0) (get_or left 1 0) lo c.word.ensures)) in
     let G : List ℕ → List ℕ → Type 0 = λ xs rest. flat_map word_bytes xs ++ rest ≡ section in
-    subst₂ G (sym c.in-default-push.ensures.held) (sym (take_rest left 2))
+    subst₂ G (sym c.in_default-push.ensures.held) (sym (take_rest left 2))
     (row_more word_bytes (numerals_list ns) n left (drop 2 left) section c.loop-left.invariant split)
 
 pub returns : goal.returns

@@ -1,7 +1,6 @@
 use Rattle.std.proofs.Common.{◌≡◌, ℕ, ◌+◌, ◌*◌, ◌<◌, ◌≤◌, true, List, [], ◌∷◌, ◌++◌, length, get_or, take, drop, set, sym, refl, ap, ◌∙◌, subst, arith, rules}
 use Rattle.std.specs.List.{flat_map}
 use Rattle.std.proofs.lemmas.List.{take_rest, take_all, length-drop, length-set, length-take-le, get_or-take}
-use Rattle.sheet.specs.declared.operand.Operand.{Operand}
 use Rattle.sheet.specs.declared.operand.Operand.TheVariants.{Zero}
 use Rattle.sheet.specs.Legal.{legal_operand, LegalOperands}
 use Rattle.sheet_file.specs.Bytes.{output_bytes}
@@ -9,8 +8,8 @@ use Rattle.sheet_file.specs.Reading.{OutputEntry}
 use Rattle.sheet_file.proofs.Rows.{two_first, bad_behind, row_more_set, row_all, below_set}
 use Rattle.sheet_file.proofs.sections.read_outputs.Goals as goal
 
-pub returns-in-default-output_entry : goal.returns-in-default-output_entry
-returns-in-default-output_entry c =
+pub returns-in_default-output_entry : goal.returns-in_default-output_entry
+returns-in_default-output_entry c =
     let left = c.loop-left.left.now in
     let k = c.loop-left.k in
     let outputs = c.loop-left.outputs in
@@ -23,7 +22,7 @@ returns-in-default-output_entry c =
     let two : take 2 left ≡ get_or left 0 0 ∷ get_or left 1 0 ∷ [] = ap (take 2) (two_first left long) in
     bad_behind output_bytes 2 (λ o. refl) (OutputEntry held used) (take k outputs) left section c.loop-left.invariant.1 (omega arith)
     (λ j d h. (let l : j < k = omega arith in (get_or (take k outputs) j d, ap (legal_operand held used) (get_or-take k outputs j d l) ∙ c.loop-left.invariant.2 j d l, refl))) Zero
-    (λ good. c.in-default-output_entry.ensures (subst (OutputEntry held used 0) two good))
+    (λ good. c.in_default-output_entry.ensures (subst (OutputEntry held used 0) two good))
 
 pub loop-left-preserved : goal.loop-left-preserved
 loop-left-preserved c =
