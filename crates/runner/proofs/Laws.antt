@@ -1,11 +1,11 @@
 -- What is read means what stands there, and one cell more keeps the law.
-use Rattle.std.proofs.Common.{◌≡◌, ℕ, ◌+◌, ◌<◌, ◌≤◌, true, eqb, ◌≢◌, List, map, length, get_or, set, Ok, Err, sym, refl, ap, ◌∙◌, subst, ⊎_elim, arith}
+use Rattle.std.proofs.Common.{◌≡◌, ℕ, ◌+◌, ◌<◌, ◌≤◌, eqb, ◌≢◌, List, map, length, get_or, set, Ok, sym, ap, ◌∙◌, subst, ⊎_elim, arith}
 use Rattle.std.proofs.lemmas.Bool.{cases_lt, cases_Bool, eqb-true, cond-false}
 use Rattle.std.proofs.lemmas.List.{get_or-map, get_or-set_same, get_or-set_other, get_or_default, get_or_past, length-map}
 use Rattle.ring.specs.Ring.{CommRing}
 use Rattle.sheet.specs.declared.operand.Operand.{Operand}
 use Rattle.sheet.specs.declared.step.Step.{Step}
-use Rattle.sheet.specs.Legal.{legal_step, LegalSteps}
+use Rattle.sheet.specs.Legal.{LegalSteps}
 use Rattle.sheet.specs.Values.{operand_value, step_value, StepValues, OutputValues}
 use Rattle.runner.specs.Runs.{run_answer}
 use Rattle.sheet.proofs.Determined.{step_agree}

@@ -1,8 +1,8 @@
-use Rattle.std.proofs.Common.{◌≡◌, ℕ, List, map, length, drop, sym, ap, ◌∙◌, subst, subst₂, rules}
+use Rattle.std.proofs.Common.{◌≡◌, ℕ, List, map, length, drop, ap, ◌∙◌, subst, subst₂, rules}
 use mathlib.Core.Path.{subst₃}
 use Rattle.sheet.specs.declared.operand.Operand.{Operand}
 use Rattle.sheet.specs.declared.step.Step.{Step}
-use Rattle.sheet.specs.Parts.{sheet_numerals, sheet_steps, sheet_outputs}
+use Rattle.sheet.specs.Parts.{sheet_numerals, sheet_steps}
 use Rattle.sheet.specs.Values.{StepValues, OutputValues}
 use Rattle.sheet.proofs.Determined.{only_cells}
 use Rattle.runner.proofs.running.run.Goals as goal
