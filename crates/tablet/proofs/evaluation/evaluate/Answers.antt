@@ -1,4 +1,4 @@
-use Rattle.std.proofs.Common.{◌≡◌, ℕ, List, map, vec_items, sym, ap, ◌∙◌, subst}
+use Rattle.std.proofs.Common.{List, map, vec_items, ap, ◌∙◌, subst}
 use Rattle.std.proofs.lemmas.Result.{IfOk-from_err}
 use Rattle.sheet.specs.Parts.{sheet_steps, sheet_outputs}
 use Rattle.tablet.specs.declared.evaluation.Values.{Values}
@@ -9,8 +9,8 @@ use Rattle.tablet.proofs.evaluation.evaluate.Goals as goal
 pub returns-in_err-values : goal.returns-in_err-values
 returns-in_err-values g c = IfOk-from_err _ _ c.from_residual-in_err-values.ensures.0
 
-pub returns-in_err-report : goal.returns-in_err-report
-returns-in_err-report g c = IfOk-from_err _ _ c.from_residual-in_err-report.ensures.0
+pub returns-in_err-report-in-Outputs : goal.returns-in_err-report-in-Outputs
+returns-in_err-report-in-Outputs g c = IfOk-from_err _ _ c.from_residual-in_err-report-in-Outputs.ensures.0
 
 pub returns-in-Outputs : goal.returns-in-Outputs
 returns-in-Outputs g c =
@@ -23,7 +23,7 @@ returns-in-Outputs g c =
       in_file = c.in-Ok.ensures.answer.0;
       values = vec_items outputs;
       worth = ran;
-      printed = c.in_ok-report.ensures ∙ ap (λ (xs : List g.row.R.Denot). report_text (sheet_steps sheet) (sheet_outputs sheet) (map g.R.Spelled.shows xs)) c.deref.ensures.value;
+      printed = c.in_ok-report-in-Outputs.ensures ∙ ap (λ (xs : List g.row.R.Denot). report_text (sheet_steps sheet) (sheet_outputs sheet) (map g.R.Spelled.shows xs)) c.deref.ensures.value;
     }
 
 pub returns : goal.returns

@@ -2,7 +2,6 @@ use Rattle.std.proofs.Common.{◌≡◌, List, map, length, sym, ap, ◌∙◌, 
 use Rattle.std.proofs.lemmas.List.{with_items_is}
 use Rattle.sheet.specs.Parts.{sheet_numerals, sheet_steps, sheet_outputs}
 use Rattle.sheet.specs.Values.{OutputValues}
-use Rattle.runner.specs.Runs.{Ran}
 use Rattle.runner.proofs.Laws.{ran_eight}
 use Rattle.tablet.proofs.evaluation.run_sheet.Goals as goal
 

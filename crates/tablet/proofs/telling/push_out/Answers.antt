@@ -1,4 +1,4 @@
-use Rattle.std.proofs.Common.{◌≡◌, ℕ, List, [], ◌∷◌, ◌++◌, string_bytes, decimal, refl, ap, ◌∙◌, append_assoc, rules}
+use Rattle.std.proofs.Common.{◌≡◌, ℕ, List, [], ◌∷◌, ◌++◌, string_bytes, decimal, ap, ◌∙◌, append_assoc}
 use Rattle.tablet.proofs.Texts.{three_more}
 use Rattle.tablet.proofs.telling.push_out.Goals as goal
 
