@@ -1,5 +1,5 @@
 -- What chains of steps are worth, where the cells keep the law of the steps.
-use Rattle.std.proofs.Common.{◌≡◌, ℕ, zero, suc, ◌+◌, ◌<◌, true, false, cond, List, [], ◌∷◌, ◌++◌, map, length, get_or, sym, refl, ap, ◌∙◌, subst, ap₂, arith}
+use Rattle.std.proofs.Common.{◌≡◌, ℕ, suc, ◌+◌, ◌<◌, true, false, cond, List, [], ◌∷◌, ◌++◌, map, length, get_or, sym, refl, ap, ◌∙◌, subst, ap₂, arith}
 use Rattle.ring.specs.Ring.{CommRing}
 use Rattle.ring.proofs.Laws.{opposite_plus, opposite_zero, zero_plus}
 use Rattle.sheet.specs.declared.operand.Operand.{Operand}
