@@ -1,6 +1,5 @@
 -- The style that a table holds.
 use Rattle.std.specs.Prelude.{ℕ, ◌+◌, List, [], map, take, slice_index_or}
-use Rattle.algebra.specs.Rows.{Row as Term}
 use Rattle.cubes.specs.declared.row.Row.{Row}
 use Rattle.cubes.specs.Expressions.{rows_of}
 use Rattle.cubes.specs.Rows.{as_rows}
