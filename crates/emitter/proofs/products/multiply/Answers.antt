@@ -23,7 +23,7 @@ loop-j-init c =
 
 pub link-requires : goal.link-requires
 link-requires c =
-    let some : 0 < c.args.times - c.loop-j.-j = omega arith in
+    let some : 0 < c.args.times - c.loop-j._j = omega arith in
     record {
       room = factor_room c.args.at _ c.in-Some.made c.loop-j.product _ c.in-Some.is some c.loop-j.invariant.1;
       few = factor_room c.args.at _ c.in-Some.made c.loop-j.product _ c.in-Some.is some c.loop-j.invariant.2;
@@ -32,7 +32,7 @@ link-requires c =
 pub loop-j-preserved : goal.loop-j-preserved
 loop-j-preserved c =
     let at = c.args.at in
-    let j = c.loop-j.-j in
+    let j = c.loop-j._j in
     let n = c.args.times in
     let product = c.loop-j.product in
     let f = c.args.factor in
@@ -68,5 +68,5 @@ loop-j-preserved c =
 
 pub returns : goal.returns
 returns c old before m =
-    let e : c.loop-j.-j ≡ c.args.times = omega arith in
+    let e : c.loop-j._j ≡ c.args.times = omega arith in
     multiplied_same (c.loop-j.invariant.0 old before m) (ap (λ (n : ℕ). before ++ replicate n c.args.factor) e) refl refl

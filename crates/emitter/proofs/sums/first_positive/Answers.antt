@@ -14,7 +14,7 @@ returns-in-Plus c =
     record { within = omega arith; split = c.loop-i.invariant; positive = λ d b. ap (λ (t : Summand). t.sign) (get_or_default ts i d _ h) ∙ c.in-Plus.is }
 
 pub loop-i-preserved : goal.loop-i-preserved
-loop-i-preserved c = split_more c.args.terms.now c.loop-i.i _ (omega arith) c.in-default.is c.loop-i.invariant
+loop-i-preserved c = split_more c.args.terms.now c.loop-i.i _ (omega arith) c.in_default.is c.loop-i.invariant
 
 pub returns : goal.returns
 returns c =
