@@ -10,7 +10,7 @@ use Rattle.kernels.specs.declared.kernel.Kernel.{Kernel}
 use Rattle.kernels.specs.declared.rest.Rest.{Rest}
 use Rattle.kernels.specs.Kernels.{no_kernel, cokernel_at}
 use Rattle.kernels.specs.Lists.{overlay, Written}
-use Rattle.kernels.specs.Rests.{row, slot}
+use Rattle.kernels.specs.Rests.{slot}
 use Rattle.kernels.specs.Search.{Under, IsKernel, Agrees, Entry, Kernels, Leads, Barren}
 use Rattle.kernels.proofs.Overlays.{overlay_one, overlay_over, written_as, written_join}
 
