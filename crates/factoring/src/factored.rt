@@ -8,7 +8,7 @@ ghost use Rattle.factoring.specs.Takens.{as_takens};
 use crate::columns::named_columns;
 use crate::order::with_part;
 use crate::part::{common_sign, rows_of_part};
-use crate::rewriting::rewrite_all;
+use crate::rewritten::rewrite_all;
 use crate::taken::TakenKernel;
 use crate::taking::take_all;
 use cubes::{Cube, Expression, Row};

@@ -6,7 +6,7 @@ mod factored;
 mod order;
 mod part;
 mod places;
-mod rewriting;
+mod rewritten;
 mod taken;
 mod taking;
 

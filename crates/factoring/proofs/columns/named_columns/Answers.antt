@@ -2,7 +2,7 @@ use Rattle.std.proofs.Common.{◌+◌, vec_items, vec_len, ap, ◌∙◌, arith}
 use Rattle.cubes.specs.Powers.{power}
 use Rattle.factoring.proofs.Namings.{at_end, moved, turn_in, turn_out, turn_none}
 use Rattle.factoring.proofs.columns.named_columns.Goals as goal
-use Rattle.factoring.proofs.columns.named_columns.Goals.{in-Some, in-default, then-number-eq1+in_ok-push, else-number-eq1}
+use Rattle.factoring.proofs.columns.named_columns.Goals.{in-Some, in_default, then-number-eq1+in_ok-push, else-number-eq1}
 
 pub loop-row-preserved : goal.loop-row-preserved
 loop-row-preserved c =
@@ -27,8 +27,8 @@ loop-row-preserved c =
               omega (arith, ap vec_len e, c.loop-row.invariant.1),
             )
       ]
-      | in-default w ↦ (
-        moved a c.args.set xs _ _ (i + 1) _ _ w.number-is (ap vec_items w.columns-is) (turn_none a c.args.set xs n i old h c.loop-row.invariant.0 w.in-default.ensures),
+      | in_default w ↦ (
+        moved a c.args.set xs _ _ (i + 1) _ _ w.number-is (ap vec_items w.columns-is) (turn_none a c.args.set xs n i old h c.loop-row.invariant.0 w.in_default.ensures),
         omega (arith, ap vec_len w.columns-is, c.loop-row.invariant.1),
       )
     ]

@@ -16,7 +16,7 @@ returns-in-Plus c =
 
 pub loop-row-preserved : goal.loop-row-preserved
 loop-row-preserved c =
-    sym (ap (λ s. minus s && all_minus (drop (c.loop-row.row-index + 1) c.args.columns.now)) c.in-default.is)
+    sym (ap (λ s. minus s && all_minus (drop (c.loop-row.row-index + 1) c.args.columns.now)) c.in_default.is)
     ∙ sym (at_drop_more all_minus c.args.columns.now c.loop-row.row-index no_row c.loop-row-test.true)
     ∙ c.loop-row.invariant
 

@@ -11,7 +11,7 @@ use Rattle.table.specs.Of.{rows_at}
 use Rattle.factoring.specs.Rewrites.{anew}
 use Rattle.factoring.specs.Takens.{as_takens}
 use Rattle.factoring.proofs.Wholes.{written_more}
-use Rattle.factoring.proofs.rewriting.rewrite_all.Goals as goal
+use Rattle.factoring.proofs.rewritten.rewrite_all.Goals as goal
 
 pub loop-e-preserved : goal.loop-e-preserved
 loop-e-preserved c =

@@ -9,7 +9,7 @@ use Rattle.table.specs.Of.{rows_at}
 use Rattle.factoring.specs.Rewrites.{anew, part_row}
 use Rattle.factoring.specs.Takens.{as_takens}
 use Rattle.factoring.proofs.Rests.{crowded}
-use Rattle.factoring.proofs.rewriting.rewrite.Goals as goal
+use Rattle.factoring.proofs.rewritten.rewrite.Goals as goal
 
 pub returns-in-Some : goal.returns-in-Some
 returns-in-Some c =

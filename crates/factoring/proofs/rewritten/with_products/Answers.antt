@@ -3,8 +3,8 @@ use Rattle.cubes.specs.Powers.{power}
 use Rattle.cubes.specs.Rows.{as_rows, minus}
 use Rattle.factoring.specs.Takens.{as_taken}
 use Rattle.factoring.proofs.Rests.{Appending, append_end, append_first, append_other, append_own, taken_has}
-use Rattle.factoring.proofs.rewriting.with_products.Goals as goal
-use Rattle.factoring.proofs.rewriting.with_products.Goals.{then-t-e+in-Some+in_ok-push, else-t-e}
+use Rattle.factoring.proofs.rewritten.with_products.Goals as goal
+use Rattle.factoring.proofs.rewritten.with_products.Goals.{then-t-e+in-Some+in_ok-push-in-Some, else-t-e}
 
 pub loop-t-init : goal.loop-t-init
 loop-t-init c = append_first (minus c.args.sign) (power c.args.part) c.args.e c.args.taken.now (vec_items c.args.rows)
@@ -22,8 +22,8 @@ loop-t-preserved c =
     let i = c.loop-t.t-index in
     let h = c.loop-t-test.true in
     elim c.if-t-e.branch [
-      | then-t-e+in-Some+in_ok-push w ↦
-          subst (Appending n p c.args.e ts base (i + 1)) (sym (ap vec_items w.rows-is ∙ w.in_ok-push.ensures.items))
+      | then-t-e+in-Some+in_ok-push-in-Some w ↦
+          subst (Appending n p c.args.e ts base (i + 1)) (sym (ap vec_items w.rows-is ∙ w.in_ok-push-in-Some.ensures.items))
           (append_own n p c.args.e ts base i (vec_items c.loop-t.rows) c.t-item.result h c.t-item.is c.loop-t.invariant w.if-t-e.true
           (record { cube = w.in-Some.cube; sign = c.args.sign })
           (record { sign = refl; cubes = λ l u. sym (w.in-Some.ensures.0 l u) }))

@@ -3,7 +3,7 @@ use Rattle.cubes.specs.Rows.{as_rows}
 use Rattle.rewriting.specs.Factor.{covered, has, taken_in, without}
 use Rattle.factoring.specs.Takens.{as_takens}
 use Rattle.factoring.proofs.Rests.{still}
-use Rattle.factoring.proofs.rewriting.rows_left.Given as goal
+use Rattle.factoring.proofs.rewritten.rows_left.Given as goal
 
 abbrev pub invariant-loop-k : goal.invariant-loop-k
 invariant-loop-k l =

@@ -8,7 +8,7 @@ use Rattle.rewriting.specs.Factor.{taken_in}
 use Rattle.table.specs.Of.{rows_at}
 use Rattle.factoring.specs.Rewrites.{anew}
 use Rattle.factoring.specs.Takens.{as_takens}
-use Rattle.factoring.proofs.rewriting.rewrite_all.Given as goal
+use Rattle.factoring.proofs.rewritten.rewrite_all.Given as goal
 
 abbrev pub invariant-loop-e : goal.invariant-loop-e
 invariant-loop-e l =

@@ -6,8 +6,8 @@ use Rattle.cubes.specs.declared.row.Row.{Row}
 use Rattle.rewriting.specs.Factor.{covered, has, taken_in}
 use Rattle.factoring.specs.Takens.{as_takens}
 use Rattle.factoring.proofs.Rests.{still, still_end, still_in, still_out}
-use Rattle.factoring.proofs.rewriting.rows_left.Goals as goal
-use Rattle.factoring.proofs.rewriting.rows_left.Goals.{then-not-is-covered+in_ok-push, else-not-is-covered}
+use Rattle.factoring.proofs.rewritten.rows_left.Goals as goal
+use Rattle.factoring.proofs.rewritten.rows_left.Goals.{then-not-is_covered+in_ok-push, else-not-is_covered}
 
 pub loop-k-preserved : goal.loop-k-preserved
 loop-k-preserved c =
