@@ -7,7 +7,7 @@ use Rattle.sheet.specs.declared.step.Step.{Step}
 use Rattle.sheet.specs.Parts.{Lawful}
 use Rattle.sheet_file.specs.Bytes.{word_bytes, step_bytes, output_bytes}
 use Rattle.sheet_file.specs.File.{steps_start, outputs_start, file_length, header_bytes, file_bytes}
-use Rattle.sheet_file.specs.Reading.{word_at, Laid_out, numerals_part, steps_part, outputs_part}
+use Rattle.sheet_file.specs.Reading.{word_at, LaidOut, numerals_part, steps_part, outputs_part}
 use Rattle.sheet_file.proofs.Rows.{length_row}
 
 -- how long the sections and the file are
@@ -73,7 +73,7 @@ low_high : (file : List ℕ) (p n : ℕ) → ((i : ℕ) → get_or file i 0 < 25
 low_high file p n small e = let h = small p in (omega arith, omega arith)
 
 -- a file in the right layout begins with the header's bytes
-pub header_is : (file : List ℕ) (h u : ℕ) → ((i : ℕ) → get_or file i 0 < 256) → Laid_out file h u → take 13 file ≡ header_bytes h u
+pub header_is : (file : List ℕ) (h u : ℕ) → ((i : ℕ) → get_or file i 0 < 256) → LaidOut file h u → take 13 file ≡ header_bytes h u
 header_is file h u small l =
     let a = low_high file 1 13 small l.numerals.1 in
     let b = low_high file 3 (2 * h) small l.numerals.2 in
@@ -101,7 +101,7 @@ four_parts file a b e h k l n =
         ∙ take-append-drop (j - i) (drop i file)
 
 -- a file from its parts
-pub whole_file : (file : List ℕ) (h u : ℕ) (ns : List ℕ) (ss : List Step) (os : List Operand) → ((i : ℕ) → get_or file i 0 < 256) → Laid_out file h u → length ns ≡ h → length ss ≡ u → flat_map word_bytes ns ≡ numerals_part file h → flat_map step_bytes ss ≡ steps_part file h u → flat_map output_bytes os ≡ outputs_part file h u → file_bytes ns ss os ≡ file
+pub whole_file : (file : List ℕ) (h u : ℕ) (ns : List ℕ) (ss : List Step) (os : List Operand) → ((i : ℕ) → get_or file i 0 < 256) → LaidOut file h u → length ns ≡ h → length ss ≡ u → flat_map word_bytes ns ≡ numerals_part file h → flat_map step_bytes ss ≡ steps_part file h u → flat_map output_bytes os ≡ outputs_part file h u → file_bytes ns ss os ≡ file
 whole_file file h u ns ss os small l eh eu ns_is ss_is os_is =
     let a : 13 ≤ steps_start h = omega arith in
     let b : steps_start h ≤ outputs_start h u = omega arith in
@@ -114,7 +114,7 @@ whole_file file h u ns ss os small l eh eu ns_is ss_is os_is =
 word_again : (n : ℕ) → n % 256 + 256 * (n / 256) ≡ n
 word_again n = omega arith
 
-pub laid_out : (ns : List ℕ) (ss : List Step) (os : List Operand) → Lawful ns ss os → Laid_out (file_bytes ns ss os) (length ns) (length ss)
+pub laid_out : (ns : List ℕ) (ss : List Step) (os : List Operand) → Lawful ns ss os → LaidOut (file_bytes ns ss os) (length ns) (length ss)
 laid_out ns ss os l =
     let long = length_file ns ss os in
     let sixteen = l.sixteen in
@@ -126,7 +126,7 @@ laid_out ns ss os l =
     }
 
 -- a layout gives one number of numerals and one of steps
-pub same_layout : (file : List ℕ) (h u k v : ℕ) → Laid_out file h u → Laid_out file k v → (h ≡ k) × (u ≡ v)
+pub same_layout : (file : List ℕ) (h u k v : ℕ) → LaidOut file h u → LaidOut file k v → (h ≡ k) × (u ≡ v)
 same_layout file h u k v l m =
     let a = l.numerals.2 in
     let b = m.numerals.2 in
@@ -135,7 +135,7 @@ same_layout file h u k v l m =
     (omega arith, omega arith)
 
 -- the numerals of a section of h numerals are h
-pub held_is : (file : List ℕ) (h u : ℕ) (ns : List ℕ) → Laid_out file h u → flat_map word_bytes ns ≡ numerals_part file h → length ns ≡ h
+pub held_is : (file : List ℕ) (h u : ℕ) (ns : List ℕ) → LaidOut file h u → flat_map word_bytes ns ≡ numerals_part file h → length ns ≡ h
 held_is file h u ns l same =
     let row : length (flat_map word_bytes ns) ≡ 2 * length ns = length_row word_bytes 2 (λ x. refl) ns in
     let cut : length (flat_map word_bytes ns) ≡ length (numerals_part file h) = ap length same in

@@ -20,7 +20,7 @@ use Rattle.sheet.proofs.Rules.{sheet_lawful, numerals_large}
 use Rattle.sheet.proofs.Determined.{legal_left, legal_right}
 use Rattle.sheet_file.specs.Bytes.{word_bytes, step_bytes, output_bytes}
 use Rattle.sheet_file.specs.File.{file_bytes, sheet_bytes}
-use Rattle.sheet_file.specs.Reading.{entry, StepsPair, OutputsPair, Laid_out, BrokenLayout, numerals_part, steps_part, outputs_part, NumeralEntry, StepEntry, OutputEntry, AllGood, FirstBad, Opened, RefusedAt}
+use Rattle.sheet_file.specs.Reading.{entry, StepsPair, OutputsPair, LaidOut, BrokenLayout, numerals_part, steps_part, outputs_part, NumeralEntry, StepEntry, OutputEntry, AllGood, FirstBad, Opened, RefusedAt}
 use Rattle.sheet_file.proofs.Rows.{entry_row, all_good}
 use Rattle.sheet_file.proofs.Files.{laid_out, same_layout, numerals_cut, steps_cut, outputs_cut}
 
@@ -32,7 +32,7 @@ pub numerals_good : (ns : Numerals) (section : List ℕ) → flat_map word_bytes
 numerals_good ns section whole = all_good word_bytes 2 (λ x. refl) NumeralEntry (numerals_list ns) section whole (lit< tt) (λ k d h. (get_or (numerals_list ns) k d, numerals_large ns k d h, refl)) 0
 
 -- a layout that is right is not broken
-not_broken : (file : List ℕ) (h u place : ℕ) → Laid_out file h u → BrokenLayout file place → ⊥
+not_broken : (file : List ℕ) (h u place : ℕ) → LaidOut file h u → BrokenLayout file place → ⊥
 not_broken file h u place l broken =
     ⊎_elim (λ b. b.1 l.version)
     (⊎_elim (λ b. b.2 h l.numerals)
@@ -156,7 +156,7 @@ row_same f w wide P told xs ys long px py same =
 -- lawful parts are told by their file
 parts_same : (ns ms : List ℕ) (ss ts : List Step) (os ps : List Operand) → Lawful ns ss os → Lawful ms ts ps → file_bytes ns ss os ≡ file_bytes ms ts ps → (ns ≡ ms) × (ss ≡ ts) × (os ≡ ps)
 parts_same ns ms ss ts os ps l m same =
-    let both = same_layout (file_bytes ns ss os) (length ns) (length ss) (length ms) (length ts) (laid_out ns ss os l) (subst (λ (xs : List ℕ). Laid_out xs (length ms) (length ts)) (sym same) (laid_out ms ts ps m)) in
+    let both = same_layout (file_bytes ns ss os) (length ns) (length ss) (length ms) (length ts) (laid_out ns ss os l) (subst (λ (xs : List ℕ). LaidOut xs (length ms) (length ts)) (sym same) (laid_out ms ts ps m)) in
     let h : length ns ≡ length ms = both.0 in
     let u : length ss ≡ length ts = both.1 in
     let few = l.few_numerals in

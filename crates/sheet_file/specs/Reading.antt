@@ -26,7 +26,7 @@ StepsPair file h u = (u ≤ 2000) × (word_at file 5 ≡ steps_start h) × (word
 abbrev pub OutputsPair : List ℕ → ℕ → ℕ → Type 0
 OutputsPair file h u = (word_at file 9 ≡ outputs_start h u) × (word_at file 11 ≡ 32) × (length file ≡ file_length h u)
 
-pub record Laid_out (file : List ℕ) (h u : ℕ) : Type 0 where
+pub record LaidOut (file : List ℕ) (h u : ℕ) : Type 0 where
   pub version : Version file
   pub numerals : NumeralsPair file h
   pub steps : StepsPair file h u
@@ -85,13 +85,13 @@ pub record Filled (held : ℕ) (section : List ℕ) (buffer buffer' : List Step)
 
 -- a file in the right layout, whose steps fit the buffer
 pub record Opened (file : List ℕ) (room h u : ℕ) : Type 0 where
-  pub layout : Laid_out file h u
+  pub layout : LaidOut file h u
   pub fits : u ≤ room
 
 -- why a file is refused, at which place, where the buffer has `room` places
 abbrev pub RefusedAt : Refusal → ℕ → List ℕ → ℕ → Type 0
 RefusedAt Layout place file room = BrokenLayout file place
-RefusedAt ShortBuffer place file room = (h : ℕ) × (u : ℕ) × Laid_out file h u × (room < u) × (place ≡ 0)
+RefusedAt ShortBuffer place file room = (h : ℕ) × (u : ℕ) × LaidOut file h u × (room < u) × (place ≡ 0)
 RefusedAt SmallNumeral place file room =
     (h : ℕ) × (u : ℕ) × (at : ℕ) × Opened file room h u × (place ≡ 13 + at)
     × FirstBad 2 NumeralEntry (numerals_part file h) at

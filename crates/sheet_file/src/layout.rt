@@ -1,5 +1,5 @@
 ghost use Rattle.std.specs.Prelude.{◌≡◌, ℕ, ◌+◌, ◌*◌, ◌<◌, ◌≤◌, length, Ok, Err, Decides, MatchOption};
-ghost use Rattle.sheet_file.specs.Reading.{word_at, Version, NumeralsPair, StepsPair, OutputsPair, Laid_out, BrokenLayout};
+ghost use Rattle.sheet_file.specs.Reading.{word_at, Version, NumeralsPair, StepsPair, OutputsPair, LaidOut, BrokenLayout};
 
 use crate::codes::word;
 
@@ -55,7 +55,7 @@ fn outputs_pair(file: &[u8], held: u8, used: u16) -> bool
 
 // The layout of a file, or the place where its header is wrong.
 pub(crate) fn read_layout(file: &[u8]) -> Result<Layout, usize>
-    ensures { elim result [ Ok l ↦ Laid_out file.now l.held l.used | Err place ↦ BrokenLayout file.now place ] }
+    ensures { elim result [ Ok l ↦ LaidOut file.now l.held l.used | Err place ↦ BrokenLayout file.now place ] }
 {
     if file.len() < 13 || file[0] != 3 {
         return Err(0);
