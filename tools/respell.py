@@ -77,7 +77,9 @@ def declared():
             for m in re.finditer(r"λ ((?:" + IDENT + r"\s+)*" + IDENT + r")\.", line):
                 own.update(m[1].split())
     for path in files(".rt"):
-        for m in re.finditer(r"(?:ensures|requires|ghost)\s+(" + IDENT + r")\s*[:{]", read(path)):
+        text = read(path)
+        own.update(name for name in re.findall(r"(?m)^ghost use .*\bas (" + IDENT + ")", text) if "-" in name)
+        for m in re.finditer(r"(?:ensures|requires|ghost)\s+(" + IDENT + r")\s*[:{]", text):
             if "-" in m[1]:
                 own.add(m[1])
                 fields.add(m[1])
@@ -111,11 +113,20 @@ def parts(text, mark):
     yield "code", text[at:]
 
 
+def by_recursion(line):
+    """The library's `All` goes by index: the older one, which the port script takes in as All, is written by its own name."""
+    if re.match(r"(pub )?use ", line):
+        return line.replace("AllByRecursion as All", "AllByRecursion")
+    return re.sub(r"(?<![\w.'-])All(?![\w'-])", "AllByRecursion", line)
+
+
 def turn_antt(text, own, fields):
     lines = []
+    old_all = "AllByRecursion as All" in text
     for line in text.split("\n"):
         m = re.search(r"(^|\s)--(\s|$)", line)
         code, comment = (line[: m.start()], line[m.start() :]) if m else (line, "")
+        code = by_recursion(code) if old_all else code
         lines.append(turn(code, own, fields) + in_backticks(comment, own, fields))
     return "\n".join(lines)
 

@@ -1,6 +1,6 @@
 -- Rows with distinct cubes.
 use Rattle.std.proofs.Common.{◌≡◌, ℕ, zero, suc, ◌<◌, Bool, true, false, cond, List, [], ◌∷◌, map, length, refl, arith}
-use Rattle.std.specs.List.{AllByRecursion as All}
+use Rattle.std.specs.List.{AllByRecursion}
 use Rattle.std.proofs.ByRecursion.{All-get_or, All-from_get_or, All-weaker, all_kept_by, kept_by_passes}
 use Rattle.algebra.specs.Cubes.{Powers, Same, Divides, unit, quotient}
 use Rattle.algebra.specs.Rows.{Row, Distinct, cube_in, divides_test, multiples, quotient_row, quotients}
@@ -24,12 +24,12 @@ distinct_from (r ∷ e) h = (
 pub same_quotients : (c a b : Powers) → Divides c a → Divides c b → Same (quotient a c) (quotient b c) → Same a b
 same_quotients c a b p q s l h = omega (arith, p l h, q l h, s l h)
 
-other_quotients : (c : Powers) (r : Row) → Divides c r.cube → (e : List Row) → All (λ (s : Row). Same r.cube s.cube → ⊥) e → All (λ (s : Row). Divides c s.cube) e
-    → All (λ (s : Row). Same (quotient r.cube c) s.cube → ⊥) (map (quotient_row c) e)
+other_quotients : (c : Powers) (r : Row) → Divides c r.cube → (e : List Row) → AllByRecursion (λ (s : Row). Same r.cube s.cube → ⊥) e → AllByRecursion (λ (s : Row). Divides c s.cube) e
+    → AllByRecursion (λ (s : Row). Same (quotient r.cube c) s.cube → ⊥) (map (quotient_row c) e)
 other_quotients c r p [] h d = tt
 other_quotients c r p (s ∷ e) h d = ((λ q. h.0 (same_quotients c r.cube s.cube p d.0 q)), other_quotients c r p e h.1 d.1)
 
-pub multiples_divided : (c : Powers) (e : List Row) → All (λ (r : Row). Divides c r.cube) (multiples c e)
+pub multiples_divided : (c : Powers) (e : List Row) → AllByRecursion (λ (r : Row). Divides c r.cube) (multiples c e)
 multiples_divided c e =
     All-weaker (λ (r : Row). divides_test c r.cube ≡ true) (λ (r : Row). Divides c r.cube) (λ r t. (divides_decides c r.cube).0 t) (multiples c e)
     (kept_by_passes (λ (r : Row). divides_test c r.cube) e)

@@ -1,6 +1,6 @@
 -- Laws of sums over lists and over numbers.
 use Rattle.std.proofs.Common.{◌≡◌, ℕ, zero, suc, ◌+◌, ◌*◌, ◌<◌, ◌≤◌, Bool, true, false, cond, not, ◌⊎◌, List, [], ◌∷◌, ◌++◌, map, length, get_or, set, filter, sym, refl, ap, ◌∙◌, subst, ap₂, inl, inr, ⊎_elim, add-zero, add-suc, suc-add, zero-add, arith}
-use Rattle.std.specs.List.{swap, AllZip, remove, AllByRecursion as All}
+use Rattle.std.specs.List.{swap, AllZip, remove, AllByRecursion}
 use Rattle.std.specs.List.Sorted.{IsPermutation}
 use Rattle.std.proofs.lemmas.Bool.{cases_eq}
 use Rattle.std.proofs.lemmas.List.Sorted.{IsPermutation-keeps}
@@ -30,7 +30,7 @@ module _ {M : Type 0} (a : Adding M) where
   total_same f g [] h = refl
   total_same f g (x ∷ xs) h = ap₂ a.join (h x) (total_same f g xs h)
 
-  pub total_all : {X : Type 0} (f g : X → M) (xs : List X) → All (λ x. f x ≡ g x) xs → total a f xs ≡ total a g xs
+  pub total_all : {X : Type 0} (f g : X → M) (xs : List X) → AllByRecursion (λ x. f x ≡ g x) xs → total a f xs ≡ total a g xs
   total_all f g [] h = refl
   total_all f g (x ∷ xs) h = ap₂ a.join h.0 (total_all f g xs h.1)
 

@@ -1,6 +1,6 @@
 -- Laws of the counts.
 use Rattle.std.proofs.Common.{◌≡◌, ℕ, zero, suc, ◌+◌, ◌<◌, ◌≤◌, Bool, true, false, cond, ◌&&◌, List, [], ◌∷◌, ◌++◌, length, Decides, refl, ap, ap₂, add-zero, arith}
-use Rattle.std.specs.List.{AllZip, AllByRecursion as All}
+use Rattle.std.specs.List.{AllZip, AllByRecursion}
 use Rattle.std.specs.List.Sorted.{IsPermutation}
 use Rattle.std.proofs.lemmas.Bool.{and_left, and_right}
 use Rattle.std.proofs.lemmas.List.Elements.{length_all_zip}
@@ -44,7 +44,7 @@ additions_alike e f h = ap less_one (length_all_zip Alike e f h)
 abbrev Negative : Row → Type 0
 Negative r = r.negative ≡ true
 
-pub all_negative_decides : (e : List Row) → Decides (all_negative e) (All (λ (r : Row). r.negative ≡ true) e)
+pub all_negative_decides : (e : List Row) → Decides (all_negative e) (AllByRecursion (λ (r : Row). r.negative ≡ true) e)
 all_negative_decides e = Decides-by_and (λ (r : Row). r.negative) (λ (r : Row). r.negative ≡ true) all_negative (λ r. ((λ t. t), (λ t. t))) refl (λ r rows. refl) e
 
 pub all_negative_some : (e : List Row) (k : ℕ) → k < length e → (row_in e k).negative ≡ false → all_negative e ≡ false

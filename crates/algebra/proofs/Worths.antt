@@ -1,6 +1,6 @@
 -- Laws of worth.
 use Rattle.std.proofs.Common.{◌≡◌, ℕ, ◌<◌, Bool, true, false, cond, List, [], ◌∷◌, ◌++◌, map, sym, refl, ap, ◌∙◌, ap₂}
-use Rattle.std.specs.List.{AllZip, AllByRecursion as All}
+use Rattle.std.specs.List.{AllZip, AllByRecursion}
 use Rattle.std.specs.List.Sorted.{IsPermutation}
 use Rattle.ring.specs.Ring.{CommRing}
 use Rattle.ring.proofs.Laws.{times_zero, times_opposite}
@@ -72,7 +72,7 @@ module _ {S : Type 0} (c : CommRing S) (value : ℕ → S) where
   worth_parts a e = total_parts (adding c) (row_worth c value) (λ (r : Row). divides_test a r.cube) e
 
   -- rows that a divides, as a times their quotients
-  pub worth_divided : (a : Powers) (e : List Row) → All (λ (r : Row). Divides a r.cube) e → worth c value e ≡ c.times (cube_worth c value a) (worth c value (map (quotient_row a) e))
+  pub worth_divided : (a : Powers) (e : List Row) → AllByRecursion (λ (r : Row). Divides a r.cube) e → worth c value e ≡ c.times (cube_worth c value a) (worth c value (map (quotient_row a) e))
   worth_divided a [] h = sym (times_zero c _)
   worth_divided a (r ∷ e) h = ap₂ c.plus (row_worth_quotient a r h.0) (worth_divided a e h.1) ∙ sym (c.times_plus _ _ _)
 

@@ -1,6 +1,6 @@
 -- The theorems, as the contracts name them.
 use Rattle.std.specs.Prelude.{◌≡◌, ℕ, suc, ◌+◌, ◌<◌, ◌≤◌, true, false, List, [], ◌∷◌, ◌++◌, length, Decides}
-use Rattle.std.specs.List.{AllZip, AllByRecursion as All}
+use Rattle.std.specs.List.{AllZip, AllByRecursion}
 use Rattle.std.specs.List.Sorted.{IsPermutation}
 use Rattle.ring.specs.Ring.{CommRing}
 use Rattle.algebra.specs.Cubes.{letters, Powers, Same, Divides, unit, letter, product, quotient, common}
@@ -49,7 +49,7 @@ pub record CountLaws : Type 0 where
   pub sum_none : additions [] ≡ 0
   pub sum_more : (e : List Row) → 1 ≤ length e → suc (additions e) ≡ length e
   pub signs_none : negations [] ≡ 0
-  pub signs_all : (e : List Row) → 1 ≤ length e → All (λ (r : Row). r.negative ≡ true) e → negations e ≡ 1
+  pub signs_all : (e : List Row) → 1 ≤ length e → AllByRecursion (λ (r : Row). r.negative ≡ true) e → negations e ≡ 1
   pub signs_some : (e : List Row) (k : ℕ) → k < length e → (row_in e k).negative ≡ false → negations e ≡ 0
 
 -- the two forms of 'no letter divides them all' agree

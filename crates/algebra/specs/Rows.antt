@@ -1,6 +1,6 @@
 -- Rows and expressions: a row is a cube with a sign, an expression a list of rows, which stands for their sum.
 use Rattle.std.specs.Prelude.{◌≡◌, ℕ, zero, suc, Bool, true, false, not, ◌&&◌, List, [], ◌∷◌, map, filter, nat_le, slice_index_or}
-use Rattle.std.specs.List.{AllByRecursion as All}
+use Rattle.std.specs.List.{AllByRecursion}
 use Rattle.algebra.specs.Cubes.{letters, Powers, Same, unit, quotient}
 use Rattle.algebra.specs.Sums.{counting, up_to}
 
@@ -20,7 +20,7 @@ pub record Alike (r s : Row) : Type 0 where
 -- no two rows have the same cube, signs aside
 abbrev pub Distinct : List Row → Type 0
 Distinct [] = Unit {0}
-Distinct (r ∷ rows) = All (λ (s : Row). Same r.cube s.cube → ⊥) rows × Distinct rows
+Distinct (r ∷ rows) = AllByRecursion (λ (s : Row). Same r.cube s.cube → ⊥) rows × Distinct rows
 
 -- row k, and its cube
 abbrev pub row_in : List Row → ℕ → Row

@@ -2,7 +2,7 @@
 use Rattle.std.proofs.Common.{◌≡◌, ℕ, Bool, true, false, cond, eqb, ◌⊎◌, List, [], ◌∷◌, ◌++◌, Some, None, Option, sym, refl, ap, ◌∙◌, subst, inl, inr}
 use Rattle.std.proofs.lemmas.List.{append-nil}
 use Rattle.std.proofs.lemmas.Bool.{cases_Bool, cond-true, cond-false, and_parts, and_from, or_cases, or_left, or_right, eqb-true, eq-eqb, not-true, not_from_false, false≢true, both_ways}
-use Rattle.std.specs.List.{AllByRecursion as All}
+use Rattle.std.specs.List.{AllByRecursion}
 use Rattle.choosing.specs.declared.card.Card.{Card}
 use Rattle.choosing.specs.declared.column.Column.{Column}
 use Rattle.choosing.specs.Sets.{listed}
@@ -55,7 +55,7 @@ clear_free over o r is e = not-true (over r) (subst (λ p. clear over p ≡ true
 clear_from : (over : ℕ → Bool) (o : Option ℕ) (r : ℕ) → o ≡ Some r → over r ≡ false → clear over o ≡ true
 clear_from over o r is e = subst (λ p. clear over p ≡ true) (sym is) (not_from_false (over r) e)
 
-fits_has : (over : ℕ → Bool) (xs set : List Column) → fits over xs set ≡ true → All (There xs) set
+fits_has : (over : ℕ → Bool) (xs set : List Column) → fits over xs set ≡ true → AllByRecursion (There xs) set
 fits_has over xs [] e = tt
 fits_has over xs (c ∷ cs) e =
     let parts = and_parts (clear over (row_of c.name xs)) (fits over xs cs) e in
@@ -68,7 +68,7 @@ fits_free over xs (c ∷ cs) e r (inl is) =
 fits_free over xs (c ∷ cs) e r (inr h) =
     fits_free over xs cs (and_parts (clear over (row_of c.name xs)) (fits over xs cs) e).1 r h
 
-pub fits_from : (over : ℕ → Bool) (xs set : List Column) → All (There xs) set → ((r : ℕ) → Behind xs set r → over r ≡ false) → fits over xs set ≡ true
+pub fits_from : (over : ℕ → Bool) (xs set : List Column) → AllByRecursion (There xs) set → ((r : ℕ) → Behind xs set r → over r ≡ false) → fits over xs set ≡ true
 fits_from over xs [] there free = refl
 fits_from over xs (c ∷ cs) there free =
     and_from (clear over (row_of c.name xs)) (fits over xs cs)
@@ -104,7 +104,7 @@ module _ (set : List Column) where
       ]
 
   ClearOf : ℕ → List Card → Type 0
-  ClearOf r ts = All (λ y. Behind (listed y.columns) set r → ⊥) ts
+  ClearOf r ts = AllByRecursion (λ y. Behind (listed y.columns) set r → ⊥) ts
 
   -- a row that is not covered after ys is behind none of the kernels taken
   after_clear : (ys : List Card) (over : ℕ → Bool) (r : ℕ) → after over ys r ≡ false → (over r ≡ false) × ClearOf r (taken set over ys)

@@ -1,6 +1,6 @@
 -- The best column set: by cards, and by the rewriting.
 use Rattle.std.proofs.Common.{◌≡◌, ℕ, zero, suc, ◌*◌, ◌/◌, ◌%◌, ◌^◌, ◌<◌, ◌≤◌, Bool, true, false, cond, eqb, List, [], ◌∷◌, map, length, Some, None, Option, sym, refl, ap, ◌∙◌, subst, subst₂, arith}
-use Rattle.std.specs.List.{AllByRecursion as All}
+use Rattle.std.specs.List.{AllByRecursion}
 use Rattle.algebra.specs.Cubes.{Powers}
 use Rattle.algebra.specs.Rows.{Distinct, Row, divides_test, multiples, quotient_row, quotients}
 use Rattle.algebra.proofs.Apart.{distinct_quotients}
@@ -42,11 +42,11 @@ chosen_tell names n (x ∷ xs) (r ∷ rs) t = go (eqb (n % 2) 1) (chosen_tell na
     go false h = h
 
 -- some of a list of distinct rows
-named_all : (P : Row → Type 0) (n : ℕ) (rs : List Row) → All P rs → All P (named_by n rs)
+named_all : (P : Row → Type 0) (n : ℕ) (rs : List Row) → AllByRecursion P rs → AllByRecursion P (named_by n rs)
 named_all P n [] a = tt
 named_all P n (r ∷ rs) a = go (eqb (n % 2) 1) (named_all P (n / 2) rs a.1)
   where
-    go : (b : Bool) → All P (named_by (n / 2) rs) → All P (cond b (r ∷ named_by (n / 2) rs) (named_by (n / 2) rs))
+    go : (b : Bool) → AllByRecursion P (named_by (n / 2) rs) → AllByRecursion P (cond b (r ∷ named_by (n / 2) rs) (named_by (n / 2) rs))
     go true h = (a.0, h)
     go false h = h
 

@@ -1,6 +1,6 @@
 -- Cards: what the choice of a column set sees of a kernel. The name of a column is the first place of a row alike among those named.
 use Rattle.std.specs.Prelude.{◌≡◌, ℕ, suc, ◌*◌, true, cond, List, [], ◌∷◌, map}
-use Rattle.std.specs.List.{AllByRecursion as All}
+use Rattle.std.specs.List.{AllByRecursion}
 use Rattle.algebra.specs.Cubes.{Powers}
 use Rattle.algebra.specs.Rows.{Row, degree, divides_test, quotient_row}
 use Rattle.choosing.specs.declared.card.Card.{Card}
@@ -30,7 +30,7 @@ columns_of names c p (r ∷ rs) = cond (divides_test c r.cube) (column_of names 
 
 -- each row has a name
 abbrev pub Named : List Row → List Row → Type 0
-Named names rows = All (λ (r : Row). found names r ≡ true) rows
+Named names rows = AllByRecursion (λ (r : Row). found names r ≡ true) rows
 
 -- the card of a kernel: the co-kernel's degree, and its columns, all named; the places of rows are counted eight to an expression
 pub record Dealt (names : List Row) (s : Style) (k : Kernel) (x : Card) : Type 0 where

@@ -1,5 +1,5 @@
 ghost use Rattle.std.specs.Prelude.{◌≡◌};
-ghost use Rattle.algebra.specs.Rows.{degree as degree-of};
+ghost use Rattle.algebra.specs.Rows.{degree as degree_of};
 ghost use Rattle.cubes.specs.Powers.{power};
 
 use cubes::Row;
@@ -9,5 +9,5 @@ use cubes::Row;
 pub(crate) struct Entry {
     pub row: Row,
     pub degree: u32,
-    ghost counted: { degree ≡ degree-of (power row.cube) },
+    ghost counted: { degree ≡ degree_of (power row.cube) },
 }

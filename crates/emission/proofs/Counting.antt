@@ -1,6 +1,6 @@
 -- Emitted steps, counted: each operation has a weight, and the sum of the weights is found at once for every choice of them.
 use Rattle.std.proofs.Common.{◌≡◌, ℕ, suc, ◌+◌, ◌*◌, ◌<◌, ◌≤◌, Bool, true, false, cond, ◌&&◌, ◌||◌, List, [], ◌∷◌, ◌++◌, map, length, set, sym, refl, ap, ◌∙◌, ap₂, arith}
-use Rattle.std.specs.List.{AllByRecursion as All}
+use Rattle.std.specs.List.{AllByRecursion}
 use Rattle.std.proofs.lemmas.List.{length-append, length-map, length-take-le}
 use Rattle.std.proofs.lemmas.List.Sums.{sum_by-cons}
 use Rattle.sheet.specs.declared.operand.Operand.{Operand}
@@ -26,7 +26,7 @@ use Rattle.emission.proofs.Letters.{letters_length}
 use Rattle.emission.proofs.Makings.{results_length}
 
 -- a sum over a list of numbers below n, none twice, is a sum over the numbers below n
-total_order : (f : ℕ → ℕ) (n : ℕ) (es : List ℕ) → Apart es → All (λ (e : ℕ). e < n) es → up_to counting n (λ k. cond (has es k) (f k) 0) ≡ total counting f es
+total_order : (f : ℕ → ℕ) (n : ℕ) (es : List ℕ) → Apart es → AllByRecursion (λ (e : ℕ). e < n) es → up_to counting n (λ k. cond (has es k) (f k) 0) ≡ total counting f es
 total_order f n [] a l = up_to_neutral counting n _ (λ k h. refl)
 total_order f n (e ∷ es) a l =
     up_to_same counting n _ (λ k. cond (equal k e) (f e) 0 + cond (has es k) (f k) 0) (λ k _. split k (equal k e) refl)

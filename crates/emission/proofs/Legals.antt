@@ -1,6 +1,6 @@
 -- Emitted steps keep the rules of a sheet.
 use Rattle.std.proofs.Common.{◌≡◌, ℕ, zero, suc, ◌+◌, ◌-◌, ◌<◌, ◌≤◌, true, false, List, [], ◌∷◌, ◌++◌, map, length, get_or, set, sym, refl, ap, ◌∙◌, subst, ⊎_elim, arith}
-use Rattle.std.specs.List.{AllByRecursion as All}
+use Rattle.std.specs.List.{AllByRecursion}
 use Rattle.std.proofs.ByRecursion.{All-append, All-from_get_or, All-get_or, All-map, All-set, All-weaker}
 use Rattle.std.proofs.lemmas.List.{get_or-replicate, get_or-take, length-append, length-replicate, length-set}
 use Rattle.std.proofs.lemmas.Bool.{and_from, cases_lt, lt-ltb}
@@ -49,9 +49,9 @@ module _ (held : ℕ) where
 
   -- a chain whose start and links may stand behind n steps
   abbrev Sound : ℕ → Chain → Type 0
-  Sound n k = Exists n k.start × All (Fit n) k.links
+  Sound n k = Exists n k.start × AllByRecursion (Fit n) k.links
 
-  links_legal : (n : ℕ) (x : Operand) (ks : List Link) → Exists n x → All (Fit n) ks → LegalFrom n (steps_from n x ks)
+  links_legal : (n : ℕ) (x : Operand) (ks : List Link) → Exists n x → AllByRecursion (Fit n) ks → LegalFrom n (steps_from n x ks)
   links_legal n x [] f a = tt
   links_legal n x (k ∷ ks) f a = (
     and_from _ _ f (and_from _ _ a.0.0 a.0.1),
@@ -65,16 +65,16 @@ module _ (held : ℕ) where
       subst (λ (m : ℕ). Exists m (end_from (n + 1) (ResultOf n) ks)) e (end_exists (n + 1) (ResultOf n) ks (lt-ltb n (n + 1) (omega arith)))
 
   -- products and sums
-  product_sound : (n : ℕ) (xs : List Operand) → All (Exists n) xs → Sound n (product_chain xs)
+  product_sound : (n : ℕ) (xs : List Operand) → AllByRecursion (Exists n) xs → Sound n (product_chain xs)
   product_sound n [] a = (refl, tt)
   product_sound n (x ∷ xs) a = (a.0, All-map (Fit n) (λ y. (Mul, y)) xs (All-weaker (Exists n) _ (λ y f. (f, refl)) xs a.1))
 
-  signed_fit : (n : ℕ) (ts : List Signed) → All (λ (t : Signed). Exists n t.1) ts → All (Fit n) (map signed_link ts)
+  signed_fit : (n : ℕ) (ts : List Signed) → AllByRecursion (λ (t : Signed). Exists n t.1) ts → AllByRecursion (Fit n) (map signed_link ts)
   signed_fit n [] a = tt
   signed_fit n ((true, x) ∷ ts) a = ((a.0, refl), signed_fit n ts a.1)
   signed_fit n ((false, x) ∷ ts) a = ((a.0, refl), signed_fit n ts a.1)
 
-  sum_sound : (n : ℕ) (before : List Operand) (ts : List Signed) → All (Exists n) before → All (λ (t : Signed). Exists n t.1) ts → Sound n (sum_behind before ts)
+  sum_sound : (n : ℕ) (before : List Operand) (ts : List Signed) → AllByRecursion (Exists n) before → AllByRecursion (λ (t : Signed). Exists n t.1) ts → Sound n (sum_behind before ts)
   sum_sound n [] [] b a = (refl, tt)
   sum_sound n (x ∷ xs) [] b a =
       (b.0, All-append (Fit n) (map (λ y. (Add, y)) xs) _ (All-map (Fit n) (λ y. (Add, y)) xs (All-weaker (Exists n) _ (λ y f. (f, refl)) xs b.1)) ((refl, refl), tt))
@@ -84,7 +84,7 @@ module _ (held : ℕ) where
 
   -- every result is there for n steps
   abbrev Noted : ℕ → List Operand → Type 0
-  Noted n results = (length results ≡ letters) × All (Exists n) results
+  Noted n results = (length results ≡ letters) × AllByRecursion (Exists n) results
 
   noted_later : (m n : ℕ) (results : List Operand) → m ≤ n → Noted m results → Noted n results
   noted_later m n results h a = (a.0, All-weaker (Exists m) (Exists n) (λ o. legal_later held m n o h) results a.1)
@@ -107,7 +107,7 @@ module _ (held : ℕ) where
       within : (l : ℕ) → 8 ≤ l → l < 16 → 1 ≤ r.cube l → l < 8 + held
       within l low high p = ⊎_elim (λ b. b) (λ b. absurd (omega (arith, h l b high))) (cases_lt l (8 + held))
 
-  products_legal : (n : ℕ) (results : List Operand) (rows : List Row) → Noted n results → All (Held held) rows → LegalFrom n (products results n rows)
+  products_legal : (n : ℕ) (results : List Operand) (rows : List Row) → Noted n results → AllByRecursion (Held held) rows → LegalFrom n (products results n rows)
   products_legal n results [] noted h = tt
   products_legal n results (r ∷ rows) noted h =
       let k = row_chain results r in
@@ -117,7 +117,7 @@ module _ (held : ℕ) where
       (subst (λ (i : ℕ). LegalFrom (n + i) (products results m rows)) (sym (length_steps n k.start k.links))
       (products_legal m results rows (noted_later n m results (omega arith) noted) h.1))
 
-  summands_exist : (n : ℕ) (results : List Operand) (rows : List Row) → Noted n results → All (Held held) rows → All (λ (t : Signed). Exists (n + length (products results n rows)) t.1) (summands results n rows)
+  summands_exist : (n : ℕ) (results : List Operand) (rows : List Row) → Noted n results → AllByRecursion (Held held) rows → AllByRecursion (λ (t : Signed). Exists (n + length (products results n rows)) t.1) (summands results n rows)
   summands_exist n results [] noted h = tt
   summands_exist n results (r ∷ rows) noted h =
       let k = row_chain results r in
@@ -126,10 +126,10 @@ module _ (held : ℕ) where
       let s = row_sound n results r noted h.0 in
       let e : m + length rest ≡ n + length (chain_steps n k ++ rest) = omega (arith, length-append (chain_steps n k) rest, length_steps n k.start k.links) in (
         legal_later held m (n + length (chain_steps n k ++ rest)) (chain_end n k) (omega arith) (end_exists n k.start k.links s.0),
-        subst (λ (i : ℕ). All (λ (t : Signed). Exists i t.1) (summands results m rows)) e (summands_exist m results rows (noted_later n m results (omega arith) noted) h.1),
+        subst (λ (i : ℕ). AllByRecursion (λ (t : Signed). Exists i t.1) (summands results m rows)) e (summands_exist m results rows (noted_later n m results (omega arith) noted) h.1),
       )
 
-  expression_legal : (n : ℕ) (results : List Operand) (rows : List Row) → Noted n results → All (Held held) rows
+  expression_legal : (n : ℕ) (results : List Operand) (rows : List Row) → Noted n results → AllByRecursion (Held held) rows
       → LegalFrom n (expression_steps results n rows) × Exists (n + length (expression_steps results n rows)) (expression_result results n rows)
   expression_legal n results rows noted h =
       let ps = products results n rows in
@@ -141,7 +141,7 @@ module _ (held : ℕ) where
         subst (λ (i : ℕ). Exists i (chain_end m k)) e (end_exists m k.start k.links s.0),
       )
 
-  emitted_legal : (rows : ℕ → List Row) (n : ℕ) (results : List Operand) (es : List ℕ) → Noted n results → All (λ (e : ℕ). All (Held held) (rows e)) es
+  emitted_legal : (rows : ℕ → List Row) (n : ℕ) (results : List Operand) (es : List ℕ) → Noted n results → AllByRecursion (λ (e : ℕ). AllByRecursion (Held held) (rows e)) es
       → LegalFrom n (emitted rows results n es) × Noted (n + length (emitted rows results n es)) (resulting rows results n es)
   emitted_legal rows n results [] noted h = (tt, noted_later n (n + 0) results (omega arith) noted)
   emitted_legal rows n results (x ∷ es) noted h =
@@ -167,7 +167,7 @@ emit_legal s order closed ordered =
     let results = emit_results s.expression order in
     let r =
     emitted_legal held s.expression 0 none_made order (none_noted held)
-    (All-weaker (λ (e : ℕ). e < standing s) (λ (e : ℕ). All (Held held) (s.expression e)) (λ e l. (closed.tidy e l).held) order ordered.stand) in (
+    (All-weaker (λ (e : ℕ). e < standing s) (λ (e : ℕ). AllByRecursion (Held held) (s.expression e)) (λ e l. (closed.tidy e l).held) order ordered.stand) in (
       (λ k d h. let e : k ≡ 0 + k = omega arith in ap (λ (i : ℕ). legal_step held i (get_or (steps_of s order) k d)) e ∙ legal_each held 0 (steps_of s order) r.0 k d h),
       (λ k d h.
           let e : length (steps_of s order) ≡ 0 + length (steps_of s order) = omega arith in

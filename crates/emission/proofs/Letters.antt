@@ -1,6 +1,6 @@
 -- Letters of a cube one after another, and the operand of a letter.
 use Rattle.std.proofs.Common.{◌≡◌, ℕ, zero, suc, ◌+◌, ◌-◌, ◌<◌, ◌≤◌, cond, ltb, List, length, get_or, replicate, sym, refl, ap, ◌∙◌, ap₂, ⊎_elim, arith}
-use Rattle.std.specs.List.{AllByRecursion as All}
+use Rattle.std.specs.List.{AllByRecursion}
 use Rattle.std.proofs.ByRecursion.{All-append}
 use Rattle.std.proofs.lemmas.List.{length-append, length-replicate}
 use Rattle.std.proofs.lemmas.Bool.{cases_lt, le-ltb, lt-ltb}
@@ -29,12 +29,12 @@ letters_length q zero = refl
 letters_length q (suc n) = length-append (letters_below q n) (replicate (q n) n) ∙ ap₂ ◌+◌ (letters_length q n) (length-replicate (q n) n)
 
 -- only letters with a power are among them
-pub letters_all : (P : ℕ → Type 0) (q : Powers) (n : ℕ) → ((l : ℕ) → l < n → 1 ≤ q l → P l) → All P (letters_below q n)
+pub letters_all : (P : ℕ → Type 0) (q : Powers) (n : ℕ) → ((l : ℕ) → l < n → 1 ≤ q l → P l) → AllByRecursion P (letters_below q n)
 unfolding letters_below
 letters_all P q zero h = tt
 letters_all P q (suc n) h = All-append P (letters_below q n) _ (letters_all P q n (λ l k. h l (omega arith))) (same (q n) (h n (omega arith)))
   where
-    same : (m : ℕ) → (1 ≤ m → P n) → All P (replicate m n)
+    same : (m : ℕ) → (1 ≤ m → P n) → AllByRecursion P (replicate m n)
     same zero k = tt
     same (suc m) k = (k (omega arith), same m (λ _. k (omega arith)))
 

@@ -1,6 +1,6 @@
 -- Expressions in a making order: what each result is worth in the end.
 use Rattle.std.proofs.Common.{◌≡◌, ℕ, ◌+◌, ◌-◌, ◌<◌, true, false, cond, ◌⊎◌, List, [], ◌∷◌, length, get_or, set, sym, refl, ap, ◌∙◌, subst, inl, inr, ⊎_elim, arith}
-use Rattle.std.specs.List.{AllByRecursion as All}
+use Rattle.std.specs.List.{AllByRecursion}
 use Rattle.std.proofs.ByRecursion.{All-weaker}
 use Rattle.std.proofs.lemmas.List.{get_or-set_other, get_or-set_same, get_or-take, length-replicate, length-set}
 use Rattle.std.proofs.lemmas.Bool.{both_ways, cases_lt, or_cases, or_parts}
@@ -49,7 +49,7 @@ results_length rows order = resulting_length rows none_made 0 order ∙ length-r
 
 module _ {S : Type 0} (c : CommRing S) where
   -- the worth depends on the letters alone that occur
-  worth_agree : (a b : ℕ → S) (rows : List Row) → All (λ (r : Row). (l : ℕ) → l < letters → (r.cube l ≡ 0) ⊎ (a l ≡ b l)) rows → worth c a rows ≡ worth c b rows
+  worth_agree : (a b : ℕ → S) (rows : List Row) → AllByRecursion (λ (r : Row). (l : ℕ) → l < letters → (r.cube l ≡ 0) ⊎ (a l ≡ b l)) rows → worth c a rows ≡ worth c b rows
   worth_agree a b rows h = total_all (adding c) (row_worth c a) (row_worth c b) rows (All-weaker _ _ one rows h)
     where
       one : (r : Row) → ((l : ℕ) → l < letters → (r.cube l ≡ 0) ⊎ (a l ≡ b l)) → row_worth c a r ≡ row_worth c b r
@@ -63,7 +63,7 @@ module _ {S : Type 0} (c : CommRing S) where
     abbrev WorthIn : List Operand → ℕ → Type 0
     WorthIn after e = value c numerals measures cells (get_or after e Zero) ≡ worth c (letter_value c numerals measures cells after) (rows e)
 
-    emitted_worth : (results : List Operand) (n : ℕ) (seen es : List ℕ) → length results ≡ letters → All (λ (e : ℕ). e < letters) es → Apart es → Past seen es → Backwards rows seen es
+    emitted_worth : (results : List Operand) (n : ℕ) (seen es : List ℕ) → length results ≡ letters → AllByRecursion (λ (e : ℕ). e < letters) es → Apart es → Past seen es → Backwards rows seen es
         → Kept c numerals measures cells n (emitted rows results n es) → (e : ℕ) → has es e ≡ true → WorthIn (resulting rows results n es) e
     emitted_worth results n seen [] len low apart past back kept e h = absurd (both_ways false refl h)
     emitted_worth results n seen (x ∷ es) len low apart past back kept e h =

@@ -1,6 +1,6 @@
 -- A formula's rows have the cube of a term just where one of its noted terms has the term's powers and magnitude.
 use Rattle.std.proofs.Common.{◌≡◌, ℕ, zero, suc, ◌+◌, ◌<◌, ◌≤◌, Bool, true, false, cond, ◌&&◌, eqb, ltb, List, [], ◌∷◌, map, length, get_or, sym, refl, ◌∙◌, ap₂, inl, inr, ⊎_elim, arith}
-use Rattle.std.specs.List.{AllZip, AllByRecursion as All}
+use Rattle.std.specs.List.{AllZip, AllByRecursion}
 use Rattle.std.proofs.lemmas.Bool.{and_parts, cases_Bool, cases_lt, eqb-true, le-ltb, or_cases, or_left, or_right}
 use Rattle.algebra.specs.Cubes.{Powers, Same, letter, unit}
 use Rattle.algebra.specs.Rows.{Alike}
@@ -42,7 +42,7 @@ module _ (ns : List ℕ) (t : Term) (a : Powers) (is : Same a (written_row ns t)
       (or_cases (alike_test u t) (has_cube us t) h)
 
   pub holds_has : (P : Term → Type 0) → ((u : Term) → P u → Same (written_row ns u).cube (written_row ns t).cube → alike_test u t ≡ true)
-      → (us : List Term) (xs : List Row) → All P us → AllZip Alike (map (written_row ns) us) (as_rows xs)
+      → (us : List Term) (xs : List Row) → AllByRecursion P us → AllZip Alike (map (written_row ns) us) (as_rows xs)
       → (k : ℕ) → k < length xs → Same (powers_at xs k) a → has_cube us t ≡ true
   holds_has P f [] [] p e k h s = absurd (omega arith)
   holds_has P f [] (x ∷ xs) p e k h s = absurd e

@@ -1,6 +1,6 @@
 -- The rows of noted terms with one numeral more, and the accepted terms with one term more.
 use Rattle.std.proofs.Common.{◌≡◌, ℕ, ◌+◌, ◌<◌, Bool, true, false, cond, ◌||◌, eqb, ltb, ◌⊎◌, List, [], ◌∷◌, ◌++◌, map, get_or, sym, refl, ap, ◌∙◌, ap₂, inl, inr, ⊎_elim, arith}
-use Rattle.std.specs.List.{AllByRecursion as All}
+use Rattle.std.specs.List.{AllByRecursion}
 use Rattle.std.proofs.lemmas.Bool.{ltb-false}
 use Rattle.algebra.specs.Cubes.{letter, product, unit}
 use Rattle.algebra.specs.Rows.{Row}
@@ -10,7 +10,7 @@ use Rattle.opening.specs.declared.refusal.EnterRefusal.{EnterRefusal}
 use Rattle.opening.specs.declared.refusal.EnterRefusal.TheVariants.{Formula, Coefficient, Powers, Degree, DoubleCube, FullFormula, FullStyle, NinthNumeral}
 use Rattle.opening.proofs.Numerals.{place_push}
 
-map_all : {X Y : Type 0} (f g : X → Y) (xs : List X) → All (λ x. f x ≡ g x) xs → map f xs ≡ map g xs
+map_all : {X Y : Type 0} (f g : X → Y) (xs : List X) → AllByRecursion (λ x. f x ≡ g x) xs → map f xs ≡ map g xs
 map_all f g [] h = refl
 map_all {X} {Y} f g (x ∷ xs) h = ap₂ (λ (y : Y) (ys : List Y). y ∷ ys) h.0 (map_all f g xs h.1)
 
@@ -34,10 +34,10 @@ written_with ns x u h = go (ltb (magnitude u) 2) refl h
     go false e (inl k) = absurd (omega (arith, ltb-false (magnitude u) 2 e, k))
     go false e (inr k) = ap (row_with u false) (place_with ns x (magnitude u) k)
 
-pub written_all : (ns : List ℕ) (x : ℕ) (us : List Term) → All (λ (u : Term). (magnitude u < 2) ⊎ (holds ns (magnitude u) ≡ true)) us → map (written_row (with_numeral ns x)) us ≡ map (written_row ns) us
+pub written_all : (ns : List ℕ) (x : ℕ) (us : List Term) → AllByRecursion (λ (u : Term). (magnitude u < 2) ⊎ (holds ns (magnitude u) ≡ true)) us → map (written_row (with_numeral ns x)) us ≡ map (written_row ns) us
 written_all ns x us h = map_all (written_row (with_numeral ns x)) (written_row ns) us (go us h)
   where
-    go : (ts : List Term) → All (λ (u : Term). (magnitude u < 2) ⊎ (holds ns (magnitude u) ≡ true)) ts → All (λ (u : Term). written_row (with_numeral ns x) u ≡ written_row ns u) ts
+    go : (ts : List Term) → AllByRecursion (λ (u : Term). (magnitude u < 2) ⊎ (holds ns (magnitude u) ≡ true)) ts → AllByRecursion (λ (u : Term). written_row (with_numeral ns x) u ≡ written_row ns u) ts
     go [] k = tt
     go (t ∷ ts) k = (written_with ns x t (⊎_elim (λ q. inl q) (λ q. inr (inl q)) k.0), go ts k.1)
 

@@ -1,6 +1,6 @@
 -- The accepted terms, and the style that they make.
 use Rattle.std.proofs.Common.{◌≡◌, ℕ, zero, suc, ◌+◌, ◌<◌, ◌≤◌, Bool, true, false, cond, not, ◌&&◌, ◌||◌, eqb, ltb, leb, ◌⊎◌, List, [], ◌∷◌, ◌++◌, length, get_or, sym, refl, ap, ◌∙◌, subst, ap₂, inl, inr, ⊎_elim, arith}
-use Rattle.std.specs.List.{AllByRecursion as All}
+use Rattle.std.specs.List.{AllByRecursion}
 use Rattle.std.proofs.ByRecursion.{All-push, All-weaker}
 use Rattle.std.proofs.lemmas.List.{get_or_past, length_push, append-nil}
 use Rattle.std.proofs.lemmas.Bool.{eqb-true, eqb-false, eq-eqb, ltb-true, ltb-false, leb-false, or_parts, or_left, or_right, or_cases, not-false, both_ways}
@@ -64,13 +64,13 @@ Unlike u t = (same_powers u.powers t.powers && eqb (magnitude u) (magnitude t)) 
 
 abbrev pub Unlikes : List Term → Type 0
 Unlikes [] = Unit {0}
-Unlikes (u ∷ us) = All (Unlike u) us × Unlikes us
+Unlikes (u ∷ us) = AllByRecursion (Unlike u) us × Unlikes us
 
-unlike_all : (us : List Term) (t : Term) → has_cube us t ≡ false → All (λ (u : Term). Unlike u t) us
+unlike_all : (us : List Term) (t : Term) → has_cube us t ≡ false → AllByRecursion (λ (u : Term). Unlike u t) us
 unlike_all [] t h = tt
 unlike_all (u ∷ us) t h = let q = or_parts (same_powers u.powers t.powers && eqb (magnitude u) (magnitude t)) (has_cube us t) h in (q.0, unlike_all us t q.1)
 
-unlikes_push : (us : List Term) (t : Term) → Unlikes us → All (λ (u : Term). Unlike u t) us → Unlikes (us ++ t ∷ [])
+unlikes_push : (us : List Term) (t : Term) → Unlikes us → AllByRecursion (λ (u : Term). Unlike u t) us → Unlikes (us ++ t ∷ [])
 unlikes_push [] t d a = (tt, tt)
 unlikes_push (u ∷ us) t d a = (All-push (Unlike u) us t d.0 a.0, unlikes_push us t d.1 a.1)
 
@@ -84,12 +84,12 @@ under_push e (u ∷ ts) t = go (equal e u.formula) _ _ _ (under_push e ts t)
 
 -- what is known of the accepted terms
 pub record Sound (noted : List Term) : Type 0 where
-  pub within : All (λ (t : Term). t.formula ≤ 15) noted
-  pub some : All (λ (t : Term). 1 ≤ magnitude t) noted
-  pub eight : All (λ (t : Term). length t.powers ≡ 8) noted
+  pub within : AllByRecursion (λ (t : Term). t.formula ≤ 15) noted
+  pub some : AllByRecursion (λ (t : Term). 1 ≤ magnitude t) noted
+  pub eight : AllByRecursion (λ (t : Term). length t.powers ≡ 8) noted
   pub few : length (numerals_of noted) ≤ 8
-  pub held : All (Numbered (numerals_of noted)) noted
-  pub light : All (λ (t : Term). total counting (λ p. p) t.powers ≤ 24) noted
+  pub held : AllByRecursion (Numbered (numerals_of noted)) noted
+  pub light : AllByRecursion (λ (t : Term). total counting (λ p. p) t.powers ≤ 24) noted
   pub eighty : length noted ≤ 80
   pub rows : (e : ℕ) → (length (under e noted) ≤ 8) × Unlikes (under e noted)
 
@@ -113,7 +113,7 @@ sound_more noted t s h =
       some = All-push _ noted t s.some (positive (magnitude t) (eqb-false (magnitude t) 0 (or_parts (eqb (magnitude t) 0) _ p₂.0).0));
       eight = All-push _ noted t s.eight (eqb-true (length t.powers) 8 (not-false _ p₃.0));
       few = subst (λ (ns : List ℕ). length ns ≤ 8) e (ltb-false 8 _ p₈.0);
-      held = subst (λ (ns : List ℕ). All (Numbered ns) (noted ++ t ∷ [])) e
+      held = subst (λ (ns : List ℕ). AllByRecursion (Numbered ns) (noted ++ t ∷ [])) e
           (All-push _ noted t (All-weaker _ _ (held_more (numerals_of noted) (magnitude t)) noted s.held) (held_now (numerals_of noted) t));
       light = All-push _ noted t s.light (ltb-false 24 _ p₄.0);
       eighty = omega (arith, length_push noted t, leb-false 80 (length noted) p₇.0);
@@ -144,15 +144,15 @@ sound_book noted (t ∷ ts) s = sound_book (cond (eqb (refusal noted t) 0) (note
 pub sound_accepted : (offered : List Term) → Sound (accepted offered)
 sound_accepted offered = sound_book [] offered (record { within = tt; some = tt; eight = tt; few = omega arith; held = tt; light = tt; eighty = omega arith; rows = λ e. (omega arith, tt) })
 
-pub all_both : {X : Type 0} (P Q : X → Type 0) (xs : List X) → All P xs → All Q xs → All (λ x. P x × Q x) xs
+pub all_both : {X : Type 0} (P Q : X → Type 0) (xs : List X) → AllByRecursion P xs → AllByRecursion Q xs → AllByRecursion (λ x. P x × Q x) xs
 all_both P Q [] h k = tt
 all_both P Q (x ∷ xs) h k = ((h.0, k.0), all_both P Q xs h.1 k.1)
 
-pub all_under : (P : Term → Type 0) (e : ℕ) (ts : List Term) → All P ts → All P (under e ts)
+pub all_under : (P : Term → Type 0) (e : ℕ) (ts : List Term) → AllByRecursion P ts → AllByRecursion P (under e ts)
 all_under P e [] h = tt
 all_under P e (t ∷ ts) h = go (equal e t.formula) (all_under P e ts h.1)
   where
-    go : (b : Bool) → All P (under e ts) → All P (cond b (t ∷ under e ts) (under e ts))
+    go : (b : Bool) → AllByRecursion P (under e ts) → AllByRecursion P (cond b (t ∷ under e ts) (under e ts))
     go true r = (h.0, r)
     go false r = r
 

@@ -1,6 +1,6 @@
 -- Column sets of kernels take what factor may take, and their savings are as reckoned.
 use Rattle.std.proofs.Common.{◌≡◌, ℕ, zero, suc, ◌+◌, ◌-◌, ◌*◌, ◌/◌, ◌%◌, ◌<◌, ◌≤◌, Bool, true, false, cond, eqb, List, [], ◌∷◌, ◌++◌, map, length, sym, refl, ap₂, arith, length-append}
-use Rattle.std.specs.List.{AllByRecursion as All}
+use Rattle.std.specs.List.{AllByRecursion}
 use Rattle.std.proofs.ByRecursion.{All-get_or, All-weaker}
 use Rattle.std.proofs.lemmas.Bool.{and_from, eq-eqb, or_left, or_right}
 use Rattle.algebra.specs.Counts.{additions, multiplications}
@@ -36,21 +36,21 @@ again : (c : Powers) (r : Row) → Divides c r.cube → Alike r (product_row c (
 again c r d = record { sign = refl; cubes = λ l h. omega (arith, d l h) }
 
 -- every column of a kernel is found in its expression
-columns_found : (c : Powers) (rows : List Row) → All (λ (col : Row). found rows (product_row c col) ≡ true) (quotients c rows)
+columns_found : (c : Powers) (rows : List Row) → AllByRecursion (λ (col : Row). found rows (product_row c col) ≡ true) (quotients c rows)
 columns_found c [] = tt
 columns_found c (r ∷ rows) = go (divides_test c r.cube) (divides_decides c r.cube).0 (All-weaker _ (λ (col : Row). found (r ∷ rows) (product_row c col) ≡ true) (λ col f. or_right (alike r (product_row c col)) (found rows (product_row c col)) f) (quotients c rows) (columns_found c rows))
   where
-    go : (t : Bool) → (t ≡ true → Divides c r.cube) → All (λ (col : Row). found (r ∷ rows) (product_row c col) ≡ true) (quotients c rows)
-        → All (λ (col : Row). found (r ∷ rows) (product_row c col) ≡ true) (map (quotient_row c) (cond t (r ∷ multiples c rows) (multiples c rows)))
+    go : (t : Bool) → (t ≡ true → Divides c r.cube) → AllByRecursion (λ (col : Row). found (r ∷ rows) (product_row c col) ≡ true) (quotients c rows)
+        → AllByRecursion (λ (col : Row). found (r ∷ rows) (product_row c col) ≡ true) (map (quotient_row c) (cond t (r ∷ multiples c rows) (multiples c rows)))
     go true y a = (or_left (alike r (product_row c (quotient_row c r))) _ (alike_from r (product_row c (quotient_row c r)) (again c r (y refl))), a)
     go false y a = a
 
 -- what holds of each in a list holds of those that a number names; and distinct rows stay distinct
-pub all_named : {X : Type 0} (P : X → Type 0) (n : ℕ) (xs : List X) → All P xs → All P (named_by n xs)
+pub all_named : {X : Type 0} (P : X → Type 0) (n : ℕ) (xs : List X) → AllByRecursion P xs → AllByRecursion P (named_by n xs)
 all_named P n [] a = tt
 all_named P n (x ∷ xs) a = go (eqb (n % 2) 1) (all_named P (n / 2) xs a.1)
   where
-    go : (b : Bool) → All P (named_by (n / 2) xs) → All P (cond b (x ∷ named_by (n / 2) xs) (named_by (n / 2) xs))
+    go : (b : Bool) → AllByRecursion P (named_by (n / 2) xs) → AllByRecursion P (cond b (x ∷ named_by (n / 2) xs) (named_by (n / 2) xs))
     go true rest = (a.0, rest)
     go false rest = rest
 
@@ -62,7 +62,7 @@ distinct_named n (x ∷ xs) d = go (eqb (n % 2) 1) (distinct_named (n / 2) xs d.
     go true rest = (all_named (Other x) (n / 2) xs d.0, rest)
     go false rest = rest
 
-has_all : (rows : List Row) (c : Powers) (columns : List Row) → All (λ (col : Row). found rows (product_row c col) ≡ true) columns → has_columns rows c columns ≡ true
+has_all : (rows : List Row) (c : Powers) (columns : List Row) → AllByRecursion (λ (col : Row). found rows (product_row c col) ≡ true) columns → has_columns rows c columns ≡ true
 has_all rows c [] a = refl
 has_all rows c (col ∷ cols) a = and_from (found rows (product_row c col)) (has_columns rows c cols) a.0 (has_all rows c cols a.1)
 

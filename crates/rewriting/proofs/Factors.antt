@@ -1,6 +1,6 @@
 -- Factor keeps what a style is worth.
 use Rattle.std.proofs.Common.{◌≡◌, ℕ, ◌<◌, Bool, true, false, cond, List, [], ◌∷◌, map, sym, refl, ap, ◌∙◌, subst, ap₂}
-use Rattle.std.specs.List.{AllByRecursion as All}
+use Rattle.std.specs.List.{AllByRecursion}
 use Rattle.std.proofs.lemmas.Bool.{and_parts}
 use Rattle.ring.specs.Ring.{CommRing}
 use Rattle.ring.proofs.Laws.{opposite_plus, opposite_zero, times_opposite}
@@ -31,15 +31,15 @@ module _ {S : Type 0} (c : CommRing S) (value : ℕ → S) where
 
 -- the kernels of one expression keep what each kernel keeps
 pub behind_of : (s : Style) (columns : List Row) (e : ℕ) (ts : List Taken)
-    → All (λ (t : Taken). Behind (s.expression t.expression) t.co_kernel t.places columns) ts
-    → All (λ (t : Taken). Behind (s.expression e) t.co_kernel t.places columns) (taken_in e ts)
+    → AllByRecursion (λ (t : Taken). Behind (s.expression t.expression) t.co_kernel t.places columns) ts
+    → AllByRecursion (λ (t : Taken). Behind (s.expression e) t.co_kernel t.places columns) (taken_in e ts)
 behind_of s columns e [] h = tt
 behind_of s columns e (t ∷ ts) h = go (equal e t.expression) refl (behind_of s columns e ts h.1)
   where
     P : Taken → Type 0
     P x = Behind (s.expression e) x.co_kernel x.places columns
 
-    go : (b : Bool) → equal e t.expression ≡ b → All P (taken_in e ts) → All P (cond b (t ∷ taken_in e ts) (taken_in e ts))
+    go : (b : Bool) → equal e t.expression ≡ b → AllByRecursion P (taken_in e ts) → AllByRecursion P (cond b (t ∷ taken_in e ts) (taken_in e ts))
     go true q r = (subst (λ (n : ℕ). Behind (s.expression n) t.co_kernel t.places columns) (sym (equal_true e t.expression q)) h.0, r)
     go false q r = r
 
@@ -58,7 +58,7 @@ module _ {S : Type 0} (c : CommRing S) (value : ℕ → S) (columns : List Row) 
       go true q = sym (times_opposite c _ _) ∙ ap (c.times k) (sym (worth_opposite c value columns q))
       go false q = refl
 
-  pub rewritten_worth : (rows : List Row) (ts : List Taken) → All (λ (t : Taken). Behind rows t.co_kernel t.places columns) ts → Apart (covered ts)
+  pub rewritten_worth : (rows : List Row) (ts : List Taken) → AllByRecursion (λ (t : Taken). Behind rows t.co_kernel t.places columns) ts → Apart (covered ts)
       → worth c value rows ≡ worth c value (rewritten p columns ts rows)
   rewritten_worth rows ts h d =
       before (adding c) (row_worth c value) (row_worth_alike c value) rows columns ts h d

@@ -1,6 +1,6 @@
 -- The style that the accepted terms make is closed, and not too long.
 use Rattle.std.proofs.Common.{◌≡◌, ℕ, zero, suc, ◌+◌, ◌*◌, ◌<◌, ◌≤◌, Bool, true, false, cond, ◌&&◌, eqb, ltb, ◌⊎◌, List, [], ◌∷◌, map, length, get_or, sym, refl, ap, ◌∙◌, subst, ap₂, inl, inr, ⊎_elim, arith}
-use Rattle.std.specs.List.{AllByRecursion as All}
+use Rattle.std.specs.List.{AllByRecursion}
 use Rattle.std.proofs.ByRecursion.{All-weaker, All-map}
 use Rattle.std.proofs.lemmas.List.{get_or_past, length-map}
 use Rattle.std.proofs.lemmas.Bool.{cases_eq, ltb-true, ltb-false, eq-eqb, and_from, both_ways}
@@ -112,15 +112,15 @@ module _ (noted : List Term) (s : Sound noted) where
           (λ q. absurd (omega (arith, at l (omega arith) v.0.0, v.1 l, w.1 l, letter_own l, letter_other (8 + place ns (magnitude t)) l q)))
           (cases_eq l (8 + place ns (magnitude t)))
 
-  others : (us : List Term) → All Fine us → Unlikes us → Distinct (map (written_row ns) us)
+  others : (us : List Term) → AllByRecursion Fine us → Unlikes us → Distinct (map (written_row ns) us)
   others [] f d = tt
   others (u ∷ us) f d = (go us f.1 d.0, others us f.1 d.1)
     where
-      go : (ts : List Term) → All Fine ts → All (Unlike u) ts → All (Other (written_row ns u)) (map (written_row ns) ts)
+      go : (ts : List Term) → AllByRecursion Fine ts → AllByRecursion (Unlike u) ts → AllByRecursion (Other (written_row ns u)) (map (written_row ns) ts)
       go [] a b = tt
       go (t ∷ ts) a b = (other u t f.0 a.0 b.0, go ts a.1 b.1)
 
-  pub all_fine : All Fine noted
+  pub all_fine : AllByRecursion Fine noted
   all_fine = all_both _ _ noted s.some (all_both _ _ noted s.eight (all_both _ _ noted s.held s.light))
 
   pub first_tidy : (e : ℕ) → Tidy (length ns) 16 ((written noted).expression e)
@@ -142,7 +142,7 @@ written_closed offered = record {
 }
 
 -- counts of one expression
-few_products : (e : List Row) → All Low e → multiplications e ≤ length e * 24
+few_products : (e : List Row) → AllByRecursion Low e → multiplications e ≤ length e * 24
 few_products [] a = omega arith
 few_products (r ∷ rs) a = add (degree r.cube) _ _ a.0 (few_products rs a.1)
   where
@@ -157,7 +157,7 @@ few_others (r ∷ rs) = go (all_negative (r ∷ rs))
     go true = omega arith
     go false = omega arith
 
-up_to_under : (n : ℕ) (ts : List Term) → All (λ (t : Term). t.formula < n) ts → up_to counting n (λ e. length (under e ts)) ≡ length ts
+up_to_under : (n : ℕ) (ts : List Term) → AllByRecursion (λ (t : Term). t.formula < n) ts → up_to counting n (λ e. length (under e ts)) ≡ length ts
 up_to_under n [] a = up_to_neutral counting n _ (λ k l. refl)
 up_to_under n (t ∷ ts) a =
     up_to_same counting n _ (λ e. cond (equal e t.formula) 1 0 + length (under e ts)) (λ e _. go (equal e t.formula) (under e ts))

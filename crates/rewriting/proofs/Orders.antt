@@ -1,6 +1,6 @@
 -- The making order stays in order.
 use Rattle.std.proofs.Common.{◌≡◌, ℕ, zero, suc, ◌+◌, ◌<◌, ◌≤◌, Bool, true, false, cond, ◌||◌, ◌⊎◌, List, [], ◌∷◌, map, length, sym, refl, ap, ◌∙◌, subst, inl, inr, ⊎_elim, arith}
-use Rattle.std.specs.List.{AllByRecursion as All}
+use Rattle.std.specs.List.{AllByRecursion}
 use Rattle.std.proofs.ByRecursion.{All-append, All-map, All-get_or, All-weaker}
 use Rattle.std.proofs.lemmas.Bool.{cases_eq, or_parts, or_from, or_left, or_right, or_cases, both_ways}
 use Rattle.algebra.specs.Cubes.{Powers, letter, letters, product, quotient}
@@ -37,11 +37,11 @@ has_put named p (e ∷ es) k = go (named e) (has_put named p es k)
     go true h = refl
     go false h = ap (λ (v : Bool). equal k e || v) h ∙ or_swap (equal k e) (equal k p) (has es k)
 
-apart_put : (named : ℕ → Bool) (p : ℕ) (es : List ℕ) → All (λ (e : ℕ). e < p) es → Apart es → Apart (put named p es)
+apart_put : (named : ℕ → Bool) (p : ℕ) (es : List ℕ) → AllByRecursion (λ (e : ℕ). e < p) es → Apart es → Apart (put named p es)
 apart_put named p [] l a = (refl, tt)
 apart_put named p (e ∷ es) l a = go (named e) (apart_put named p es l.1 a.1)
   where
-    none : (xs : List ℕ) → All (λ (x : ℕ). x < p) xs → has xs p ≡ false
+    none : (xs : List ℕ) → AllByRecursion (λ (x : ℕ). x < p) xs → has xs p ≡ false
     none [] h = refl
     none (x ∷ xs) h = or_from _ _ (equal_apart p x (λ q. omega (arith, h.0))) (none xs h.1)
 
@@ -49,11 +49,11 @@ apart_put named p (e ∷ es) l a = go (named e) (apart_put named p es l.1 a.1)
     go true r = (none (e ∷ es) l, a)
     go false r = (has_put named p es e ∙ or_from _ _ (equal_apart e p (λ q. omega (arith, l.0))) a.0, r)
 
-all_put : (P : ℕ → Type 0) (named : ℕ → Bool) (p : ℕ) (es : List ℕ) → P p → All P es → All P (put named p es)
+all_put : (P : ℕ → Type 0) (named : ℕ → Bool) (p : ℕ) (es : List ℕ) → P p → AllByRecursion P es → AllByRecursion P (put named p es)
 all_put P named p [] h a = (h, tt)
 all_put P named p (e ∷ es) h a = go (named e) (all_put P named p es h a.1)
   where
-    go : (b : Bool) → All P (put named p es) → All P (cond b (p ∷ e ∷ es) (e ∷ put named p es))
+    go : (b : Bool) → AllByRecursion P (put named p es) → AllByRecursion P (cond b (p ∷ e ∷ es) (e ∷ put named p es))
     go true r = (h, a)
     go false r = (a.0, r)
 
@@ -68,20 +68,20 @@ within_more seen seen' e w l h = ⊎_elim (λ q. or_left (equal l e) _ q) (λ q.
 
 -- a style with one part more, its part put before the first expression that it was taken from
 module _ (s : Style) (next : ℕ → List Row) (part : List Row) (named : ℕ → Bool)
-    (apart : (e : ℕ) (seen : List ℕ) → e < standing s → named e ≡ false → All (MadeOf seen) (s.expression e) → All (MadeOf seen) (next e))
-    (with : (e : ℕ) (seen : List ℕ) → e < standing s → has seen (standing s) ≡ true → All (MadeOf seen) (s.expression e) → All (MadeOf seen) (next e))
-    (here : (e : ℕ) (seen : List ℕ) → e < standing s → named e ≡ true → All (MadeOf seen) (s.expression e) → All (MadeOf seen) part) where
+    (apart : (e : ℕ) (seen : List ℕ) → e < standing s → named e ≡ false → AllByRecursion (MadeOf seen) (s.expression e) → AllByRecursion (MadeOf seen) (next e))
+    (with : (e : ℕ) (seen : List ℕ) → e < standing s → has seen (standing s) ≡ true → AllByRecursion (MadeOf seen) (s.expression e) → AllByRecursion (MadeOf seen) (next e))
+    (here : (e : ℕ) (seen : List ℕ) → e < standing s → named e ≡ true → AllByRecursion (MadeOf seen) (s.expression e) → AllByRecursion (MadeOf seen) part) where
   abbrev p : ℕ
   p = standing s
 
   abbrev new : ℕ → List Row
   new = (with_part s next part).expression
 
-  old_is : (e : ℕ) (seen : List ℕ) → e < standing s → All (MadeOf seen) (next e) → All (MadeOf seen) (new e)
-  old_is e seen l = subst (All (MadeOf seen)) (sym (at_old s next part (λ x. x) e l))
+  old_is : (e : ℕ) (seen : List ℕ) → e < standing s → AllByRecursion (MadeOf seen) (next e) → AllByRecursion (MadeOf seen) (new e)
+  old_is e seen l = subst (AllByRecursion (MadeOf seen)) (sym (at_old s next part (λ x. x) e l))
 
   -- past the part
-  past : (es seen seen' : List ℕ) → All (λ (e : ℕ). e < p) es → Within seen seen' → has seen' p ≡ true → Backwards s.expression seen es → Backwards new seen' es
+  past : (es seen seen' : List ℕ) → AllByRecursion (λ (e : ℕ). e < p) es → Within seen seen' → has seen' p ≡ true → Backwards s.expression seen es → Backwards new seen' es
   past [] seen seen' l w h b = tt
   past (e ∷ es) seen seen' l w h b = (
     old_is e seen' l.0 (with e seen' l.0 h (All-weaker _ _ (made_more seen seen' w) (s.expression e) b.0)),
@@ -89,13 +89,13 @@ module _ (s : Style) (next : ℕ → List Row) (part : List Row) (named : ℕ �
   )
 
   -- up to it
-  upto : (es seen : List ℕ) → All (λ (e : ℕ). e < p) es → (k : ℕ) → has es k ≡ true → named k ≡ true → Backwards s.expression seen es → Backwards new seen (put named p es)
+  upto : (es seen : List ℕ) → AllByRecursion (λ (e : ℕ). e < p) es → (k : ℕ) → has es k ≡ true → named k ≡ true → Backwards s.expression seen es → Backwards new seen (put named p es)
   upto [] seen l k h n b = let z : ◌≡◌ {A = ℕ} 0 1 = cc in absurd (omega arith)
   upto (e ∷ es) seen l k h n b = go (named e) refl (λ q. upto es (e ∷ seen) l.1 k q n b.1)
     where
       go : (v : Bool) → named e ≡ v → (has es k ≡ true → Backwards new (e ∷ seen) (put named p es)) → Backwards new seen (cond v (p ∷ e ∷ es) (e ∷ put named p es))
       go true q r = (
-        subst (All (MadeOf seen)) (sym (at_new s next part (λ x. x))) (here e seen l.0 q b.0),
+        subst (AllByRecursion (MadeOf seen)) (sym (at_new s next part (λ x. x))) (here e seen l.0 q b.0),
         past (e ∷ es) seen (p ∷ seen) l (λ m t. or_right (equal m p) _ t) (or_left (equal p p) _ (equal_refl p)) b,
       )
       go false q r = (
@@ -117,15 +117,15 @@ module _ (s : Style) (columns : List Row) (taken : List Taken) (k : Takes s colu
   next e = rewritten (standing s) columns (taken_in e taken) (s.expression e)
 
   -- co-kernel and column have only letters of the row behind
-  behind_made : (e : ℕ) (seen : List ℕ) → All (MadeOf seen) (s.expression e) → (c : Powers) (ks : List ℕ) → Behind (s.expression e) c ks columns
-      → All (λ (col : Row). (l : ℕ) → 16 ≤ l → l < letters → (c l + col.cube l ≡ 0) ⊎ (has seen l ≡ true)) columns
+  behind_made : (e : ℕ) (seen : List ℕ) → AllByRecursion (MadeOf seen) (s.expression e) → (c : Powers) (ks : List ℕ) → Behind (s.expression e) c ks columns
+      → AllByRecursion (λ (col : Row). (l : ℕ) → 16 ≤ l → l < letters → (c l + col.cube l ≡ 0) ⊎ (has seen l ≡ true)) columns
   behind_made e seen m c ks b =
       behind_each (s.expression e) c _ (λ n h col a l g q. ⊎_elim (λ z. inl (sym (a.cubes l q) ∙ z)) (λ z. inr z) (All-get_or (MadeOf seen) (s.expression e) n nothing h m l g q)) ks columns b
 
-  factor_apart : (e : ℕ) (seen : List ℕ) → e < standing s → factored_from taken e ≡ false → All (MadeOf seen) (s.expression e) → All (MadeOf seen) (next e)
+  factor_apart : (e : ℕ) (seen : List ℕ) → e < standing s → factored_from taken e ≡ false → AllByRecursion (MadeOf seen) (s.expression e) → AllByRecursion (MadeOf seen) (next e)
   factor_apart e seen l n m =
       All-append (MadeOf seen) (without (has (covered (taken_in e taken))) (s.expression e)) _ (all_without _ _ (s.expression e) m)
-      (subst (λ (ts : List Taken). All (MadeOf seen) (map (stand_in (standing s) columns) ts)) (sym (none taken n)) tt)
+      (subst (λ (ts : List Taken). AllByRecursion (MadeOf seen) (map (stand_in (standing s) columns) ts)) (sym (none taken n)) tt)
     where
       none : (ts : List Taken) → factored_from ts e ≡ false → taken_in e ts ≡ []
       none [] h = refl
@@ -133,15 +133,15 @@ module _ (s : Style) (columns : List Row) (taken : List Taken) (k : Takes s colu
           let q = or_parts (equal e t.expression) (factored_from ts e) h in
           ap (λ (b : Bool). cond b (t ∷ taken_in e ts) (taken_in e ts)) q.0 ∙ none ts q.1
 
-  factor_with : (e : ℕ) (seen : List ℕ) → e < standing s → has seen (standing s) ≡ true → All (MadeOf seen) (s.expression e) → All (MadeOf seen) (next e)
+  factor_with : (e : ℕ) (seen : List ℕ) → e < standing s → has seen (standing s) ≡ true → AllByRecursion (MadeOf seen) (s.expression e) → AllByRecursion (MadeOf seen) (next e)
   factor_with e seen l h m =
       All-append (MadeOf seen) (without (has (covered (taken_in e taken))) (s.expression e)) _ (all_without _ _ (s.expression e) m)
       (All-map (MadeOf seen) (stand_in (standing s) columns) (taken_in e taken) (All-weaker _ _ (λ t b. made t (behind_made e seen m t.co_kernel t.places b)) (taken_in e taken) (behind_of s columns e taken k.behind)))
     where
-      made : (t : Taken) → All (λ (col : Row). (l : ℕ) → 16 ≤ l → l < letters → (t.co_kernel l + col.cube l ≡ 0) ⊎ (has seen l ≡ true)) columns → MadeOf seen (stand_in (standing s) columns t)
+      made : (t : Taken) → AllByRecursion (λ (col : Row). (l : ℕ) → 16 ≤ l → l < letters → (t.co_kernel l + col.cube l ≡ 0) ⊎ (has seen l ≡ true)) columns → MadeOf seen (stand_in (standing s) columns t)
       made t a j g q = go columns k.two a
         where
-          go : (cols : List Row) → 2 ≤ length cols → All (λ (col : Row). (l : ℕ) → 16 ≤ l → l < letters → (t.co_kernel l + col.cube l ≡ 0) ⊎ (has seen l ≡ true)) cols
+          go : (cols : List Row) → 2 ≤ length cols → AllByRecursion (λ (col : Row). (l : ℕ) → 16 ≤ l → l < letters → (t.co_kernel l + col.cube l ≡ 0) ⊎ (has seen l ≡ true)) cols
               → (t.co_kernel j + letter (standing s) j ≡ 0) ⊎ (has seen j ≡ true)
           go [] o b = absurd (omega arith)
           go (x ∷ xs) o b =
@@ -149,10 +149,10 @@ module _ (s : Style) (columns : List Row) (taken : List Taken) (k : Takes s colu
               (λ r. ⊎_elim (λ z. inl (omega (arith, letter_other (standing s) j r))) (λ z. inr z) (b.0 j g q))
               (cases_eq j (standing s))
 
-  factor_here : (e : ℕ) (seen : List ℕ) → e < standing s → factored_from taken e ≡ true → All (MadeOf seen) (s.expression e) → All (MadeOf seen) (part_rows columns)
+  factor_here : (e : ℕ) (seen : List ℕ) → e < standing s → factored_from taken e ≡ true → AllByRecursion (MadeOf seen) (s.expression e) → AllByRecursion (MadeOf seen) (part_rows columns)
   factor_here e seen l n m = part_all (MadeOf seen) (λ _ w. w) columns (go taken n k.behind)
     where
-      go : (ts : List Taken) → factored_from ts e ≡ true → All (λ (t : Taken). Behind (s.expression t.expression) t.co_kernel t.places columns) ts → All (MadeOf seen) columns
+      go : (ts : List Taken) → factored_from ts e ≡ true → AllByRecursion (λ (t : Taken). Behind (s.expression t.expression) t.co_kernel t.places columns) ts → AllByRecursion (MadeOf seen) columns
       go [] h b = let z : ◌≡◌ {A = ℕ} 0 1 = cc in absurd (omega arith)
       go (t ∷ ts) h b =
           ⊎_elim
@@ -166,7 +166,7 @@ module _ (s : Style) (columns : List Row) (taken : List Taken) (k : Takes s colu
       let f = first taken k.some k.stands in
       ordered_with s next (part_rows columns) (factored_from taken) factor_apart factor_with factor_here order o f.0 f.1 f.2
     where
-      first : (ts : List Taken) → 1 ≤ length ts → All (λ (t : Taken). t.expression < standing s) ts → (e : ℕ) × (e < standing s) × (factored_from ts e ≡ true)
+      first : (ts : List Taken) → 1 ≤ length ts → AllByRecursion (λ (t : Taken). t.expression < standing s) ts → (e : ℕ) × (e < standing s) × (factored_from ts e ≡ true)
       first [] h a = absurd (omega arith)
       first (t ∷ ts) h a = (t.expression, a.0, or_left _ _ (equal_refl t.expression))
 
@@ -185,11 +185,11 @@ module _ (s : Style) (cube : Powers) (k : Shares s cube) where
           (cases_eq l (standing s))
       go false e = m l g q
 
-  share_apart : (rows : List Row) (seen : List ℕ) → any_divided cube rows ≡ false → All (MadeOf seen) rows → All (MadeOf seen) (map (shared_row (standing s) cube) rows)
+  share_apart : (rows : List Row) (seen : List ℕ) → any_divided cube rows ≡ false → AllByRecursion (MadeOf seen) rows → AllByRecursion (MadeOf seen) (map (shared_row (standing s) cube) rows)
   share_apart [] seen n m = tt
   share_apart (r ∷ rs) seen n m = let q = or_parts (divides_test cube r.cube) (any_divided cube rs) n in (share_row seen r (inl q.0) m.0, share_apart rs seen q.1 m.1)
 
-  share_here : (rows : List Row) (seen : List ℕ) → any_divided cube rows ≡ true → All (MadeOf seen) rows → All (MadeOf seen) (cube_part cube)
+  share_here : (rows : List Row) (seen : List ℕ) → any_divided cube rows ≡ true → AllByRecursion (MadeOf seen) rows → AllByRecursion (MadeOf seen) (cube_part cube)
   share_here [] seen n m = let z : ◌≡◌ {A = ℕ} 0 1 = cc in absurd (omega arith)
   share_here (r ∷ rs) seen n m =
       ⊎_elim
@@ -216,7 +216,7 @@ pub share_stays_ordered : ShareStaysOrdered
 share_stays_ordered s cube k order o = share_ordered s cube k order o
 
 -- the formulas, at first
-all_count : (n m b : ℕ) → n + m ≤ b → All (λ (e : ℕ). (n ≤ e) × (e < b)) (count_from n m)
+all_count : (n m b : ℕ) → n + m ≤ b → AllByRecursion (λ (e : ℕ). (n ≤ e) × (e < b)) (count_from n m)
 all_count n zero b h = tt
 all_count n (suc m) b h = ((omega arith, omega arith), All-weaker _ _ (λ e q. (omega arith, q.1)) (count_from (suc n) m) (all_count (suc n) m b (omega arith)))
 
@@ -224,7 +224,7 @@ apart_count : (n m : ℕ) → Apart (count_from n m)
 apart_count n zero = tt
 apart_count n (suc m) = (none (count_from (suc n) m) (all_count (suc n) m (suc n + m) (omega arith)), apart_count (suc n) m)
   where
-    none : (xs : List ℕ) → All (λ (e : ℕ). (suc n ≤ e) × (e < suc n + m)) xs → has xs n ≡ false
+    none : (xs : List ℕ) → AllByRecursion (λ (e : ℕ). (suc n ≤ e) × (e < suc n + m)) xs → has xs n ≡ false
     none [] a = refl
     none (x ∷ xs) a = or_from _ _ (equal_apart n x (λ q. omega (arith, a.0.0))) (none xs a.1)
 
@@ -240,7 +240,7 @@ first_ordered s bare z = record {
   backwards = go first_order [] (All-weaker (λ (e : ℕ). (0 ≤ e) × (e < 16)) (λ (e : ℕ). e < standing s) (λ e q. omega (arith, q.1)) first_order (all_count 0 16 16 (omega arith)));
 }
   where
-    go : (es seen : List ℕ) → All (λ (e : ℕ). e < standing s) es → Backwards s.expression seen es
+    go : (es seen : List ℕ) → AllByRecursion (λ (e : ℕ). e < standing s) es → Backwards s.expression seen es
     go [] seen a = tt
     go (e ∷ es) seen a = (All-weaker (Below (standing s)) (MadeOf seen) (λ r b l h q. inl (b l (omega arith) q)) (s.expression e) (z.tidy e a.0).known, go es (e ∷ seen) a.1)
 
@@ -256,7 +256,7 @@ ordered_like s s' k order o = record {
   backwards = go order [] o.stand o.backwards;
 }
   where
-    go : (es seen : List ℕ) → All (λ (e : ℕ). e < standing s) es → Backwards s.expression seen es → Backwards s'.expression seen es
+    go : (es seen : List ℕ) → AllByRecursion (λ (e : ℕ). e < standing s) es → Backwards s.expression seen es → Backwards s'.expression seen es
     go [] seen a b = tt
     go (e ∷ es) seen a b = (
       all_alike (MadeOf seen) (λ r x h m l g q. ⊎_elim (λ z. inl (sym (h.cubes l q) ∙ z)) (λ z. inr z) (m l g q)) (s.expression e) (s'.expression e) (k.rows e a.0) b.0,

@@ -1,6 +1,6 @@
 -- A list and the places that are taken out of it.
 use Rattle.std.proofs.Common.{◌≡◌, ℕ, zero, suc, ◌<◌, Bool, true, false, cond, ◌||◌, List, [], ◌∷◌, map, length, sym, refl, ap, ◌∙◌, ap₂, arith}
-use Rattle.std.specs.List.{AllByRecursion as All}
+use Rattle.std.specs.List.{AllByRecursion}
 use Rattle.std.proofs.ByRecursion.{All-append}
 use Rattle.algebra.specs.Cubes.{Powers, Same, unit}
 use Rattle.algebra.specs.Rows.{Alike, Row, row_in}
@@ -34,7 +34,7 @@ module _ {M : Type 0} (a : Adding M) (f : Row → M) where
   without_none (r ∷ rs) = ap (a.join (f r)) (without_none rs)
 
   -- a list is the rows at some places and the rest
-  pub without_all : (rows : List Row) (ks : List ℕ) → Apart ks → All (λ (k : ℕ). k < length rows) ks
+  pub without_all : (rows : List Row) (ks : List ℕ) → Apart ks → AllByRecursion (λ (k : ℕ). k < length rows) ks
       → total a f rows ≡ a.join (total a (λ (k : ℕ). f (row_in rows k)) ks) (total a f (without (has ks) rows))
   without_all rows [] h l = sym (neutral_join a _ ∙ without_none rows)
   without_all rows (k ∷ ks) h l =
@@ -43,7 +43,7 @@ module _ {M : Type 0} (a : Adding M) (f : Row → M) where
       ∙ join_left a _ _ _ ∙ sym (a.assoc _ _ _)
 
   module _ (alike : (r s : Row) → Alike r s → f r ≡ f s) (rows columns : List Row) where
-    behind_within : (c : Powers) (ks : List ℕ) (cols : List Row) → Behind rows c ks cols → All (λ (k : ℕ). k < length rows) ks
+    behind_within : (c : Powers) (ks : List ℕ) (cols : List Row) → Behind rows c ks cols → AllByRecursion (λ (k : ℕ). k < length rows) ks
     behind_within c [] [] h = tt
     behind_within c [] (col ∷ cols) h = tt
     behind_within c (k ∷ ks) [] h = absurd h
@@ -57,9 +57,9 @@ module _ {M : Type 0} (a : Adding M) (f : Row → M) where
     behind_total c (k ∷ ks) (col ∷ cols) h = ap₂ a.join (alike _ _ h.0.1) (behind_total c ks cols h.1)
 
     abbrev pub Behinds : List Taken → Type 0
-    Behinds ts = All (λ (t : Taken). Behind rows t.co_kernel t.places columns) ts
+    Behinds ts = AllByRecursion (λ (t : Taken). Behind rows t.co_kernel t.places columns) ts
 
-    covered_within : (ts : List Taken) → Behinds ts → All (λ (k : ℕ). k < length rows) (covered ts)
+    covered_within : (ts : List Taken) → Behinds ts → AllByRecursion (λ (k : ℕ). k < length rows) (covered ts)
     covered_within [] h = tt
     covered_within (t ∷ ts) h = All-append _ t.places (covered ts) (behind_within t.co_kernel t.places columns h.0) (covered_within ts h.1)
 

@@ -1,6 +1,6 @@
 -- Every style that presses reach is closed.
 use Rattle.std.proofs.Common.{◌≡◌, ℕ, ◌+◌, ◌<◌, ◌≤◌, Bool, false, cond, List, [], ◌∷◌, ◌++◌, length, sym, ap, ◌∙◌, subst, subst₂, arith}
-use Rattle.std.specs.List.{AllZip, AllByRecursion as All}
+use Rattle.std.specs.List.{AllZip, AllByRecursion}
 use Rattle.std.proofs.lemmas.List.Elements.{length_all_zip}
 use Rattle.std.proofs.lemmas.Bool.{or_parts, both_ways}
 use Rattle.algebra.specs.Cubes.{Powers}
@@ -28,7 +28,7 @@ behind_distinct rows d c [] (col ∷ cols) b a = absurd b
 behind_distinct rows d c (k ∷ ks) [] b a = absurd b
 behind_distinct rows d c (k ∷ ks) (col ∷ cols) b a = (other ks cols b.1 a.0, behind_distinct rows d c ks cols b.1 a.1)
   where
-    other : (js : List ℕ) (xs : List Row) → Behind rows c js xs → has js k ≡ false → All (Other col) xs
+    other : (js : List ℕ) (xs : List Row) → Behind rows c js xs → has js k ≡ false → AllByRecursion (Other col) xs
     other [] [] e h = tt
     other [] (x ∷ xs) e h = absurd e
     other (j ∷ js) [] e h = absurd e
@@ -41,8 +41,8 @@ behind_distinct rows d c (k ∷ ks) (col ∷ cols) b a = (other ks cols b.1 a.0,
 pub takes_distinct : TakesDistinct
 takes_distinct s columns taken z k = go taken k.some k.stands k.behind k.once
   where
-    go : (ts : List Taken) → 1 ≤ length ts → All (λ (t : Taken). t.expression < standing s) ts
-        → All (λ (t : Taken). Behind (s.expression t.expression) t.co_kernel t.places columns) ts
+    go : (ts : List Taken) → 1 ≤ length ts → AllByRecursion (λ (t : Taken). t.expression < standing s) ts
+        → AllByRecursion (λ (t : Taken). Behind (s.expression t.expression) t.co_kernel t.places columns) ts
         → ((e : ℕ) → e < standing s → Apart (covered (taken_in e ts))) → Distinct columns
     go [] o st b a = absurd (omega arith)
     go (t ∷ ts) o st b a =
@@ -52,7 +52,7 @@ takes_distinct s columns taken z k = go taken k.some k.stands k.behind k.once
         (apart_left t.places (covered (taken_in e ts)) (subst (λ (us : List Taken). Apart (covered us)) first (a e st.0)))
 
 -- likeness
-pub all_alike : (P : Row → Type 0) → ((r x : Row) → Alike r x → P r → P x) → (d e : List Row) → AllZip Alike d e → All P d → All P e
+pub all_alike : (P : Row → Type 0) → ((r x : Row) → Alike r x → P r → P x) → (d e : List Row) → AllZip Alike d e → AllByRecursion P d → AllByRecursion P e
 all_alike P f [] [] k a = tt
 all_alike P f [] (y ∷ ys) k a = absurd k
 all_alike P f (x ∷ xs) [] k a = absurd k
@@ -64,7 +64,7 @@ distinct_alike [] (y ∷ ys) k a = absurd k
 distinct_alike (x ∷ xs) [] k a = absurd k
 distinct_alike (x ∷ xs) (y ∷ ys) k a = (go xs ys k.1 a.0, distinct_alike xs ys k.1 a.1)
   where
-    go : (us vs : List Row) → AllZip Alike us vs → All (Other x) us → All (Other y) vs
+    go : (us vs : List Row) → AllZip Alike us vs → AllByRecursion (Other x) us → AllByRecursion (Other y) vs
     go [] [] j b = tt
     go [] (v ∷ vs) j b = absurd j
     go (u ∷ us) [] j b = absurd j

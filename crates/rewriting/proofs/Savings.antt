@@ -1,6 +1,6 @@
 -- What factor saves.
 use Rattle.std.proofs.Common.{◌≡◌, ℕ, zero, suc, ◌+◌, ◌-◌, ◌*◌, ◌<◌, ◌≤◌, Bool, true, false, cond, ◌&&◌, ◌⊎◌, List, [], ◌∷◌, map, length, sym, refl, ap, ◌∙◌, ap₂, inl, inr, ⊎_elim, arith}
-use Rattle.std.specs.List.{AllByRecursion as All}
+use Rattle.std.specs.List.{AllByRecursion}
 use Rattle.std.proofs.lemmas.Bool.{cases_eq}
 use Rattle.algebra.specs.Counts.{additions, all_negative, less_one, multiplications, negations, row_multiplications}
 use Rattle.algebra.specs.Cubes.{letter}
@@ -38,7 +38,7 @@ up_to_at x p n h =
     ∙ ap (λ (b : Bool). cond b x 0) (equal_refl p)
 
 -- what is added up over the kernels of each expression is added up over all of them
-pub up_to_of : (f : Taken → ℕ) (n : ℕ) (ts : List Taken) → All (λ (t : Taken). t.expression < n) ts → up_to counting n (λ e. total counting f (taken_in e ts)) ≡ total counting f ts
+pub up_to_of : (f : Taken → ℕ) (n : ℕ) (ts : List Taken) → AllByRecursion (λ (t : Taken). t.expression < n) ts → up_to counting n (λ e. total counting f (taken_in e ts)) ≡ total counting f ts
 up_to_of f n [] h = up_to_neutral counting n _ (λ k l. refl)
 up_to_of f n (t ∷ ts) h =
     up_to_same counting n _ (λ e. cond (equal e t.expression) (f t) 0 + total counting f (taken_in e ts)) (λ e _. go (equal e t.expression) (taken_in e ts))

@@ -1,6 +1,6 @@
 -- Which kernels a column set takes.
 use Rattle.std.proofs.Common.{◌≡◌, ℕ, zero, suc, ◌<◌, Bool, true, false, cond, not, eqb, List, [], ◌∷◌, ◌++◌, length, sym, refl, ap, ◌∙◌, subst, ⊎_elim, arith}
-use Rattle.std.specs.List.{AllByRecursion as All}
+use Rattle.std.specs.List.{AllByRecursion}
 use Rattle.std.proofs.ByRecursion.{All-push}
 use Rattle.std.proofs.lemmas.List.{append_assoc, append-nil}
 use Rattle.std.proofs.lemmas.Bool.{cases_eq, and_parts, eqb-true, not-true, or_parts, or_from, or_cases, both_ways, and_from, not_from_false}
@@ -63,7 +63,7 @@ module _ (rows : List Row) (c : Powers) where
       let t = and_parts (found rows (product_row c col)) (has_columns rows c cols) h in
       (none cols t.1 d.0, spots_apart cols t.1 d.1)
     where
-      none : (xs : List Row) → has_columns rows c xs ≡ true → All (Other col) xs → has (spots rows c xs) (spot rows (product_row c col)) ≡ false
+      none : (xs : List Row) → has_columns rows c xs ≡ true → AllByRecursion (Other col) xs → has (spots rows c xs) (spot rows (product_row c col)) ≡ false
       none [] q a = refl
       none (x ∷ xs) q a =
           let t = and_parts (found rows (product_row c x)) (has_columns rows c xs) q in
@@ -110,8 +110,8 @@ covered_push (t ∷ ts) us = ap (λ (l : List ℕ). t.places ++ l) (covered_push
 
 -- what holds of the kernels taken so far
 record Fair (s : Style) (columns : List Row) (taken : List Taken) : Type 0 where
-  stands : All (λ (t : Taken). t.expression < standing s) taken
-  behind : All (λ (t : Taken). Behind (s.expression t.expression) t.co_kernel t.places columns) taken
+  stands : AllByRecursion (λ (t : Taken). t.expression < standing s) taken
+  behind : AllByRecursion (λ (t : Taken). Behind (s.expression t.expression) t.co_kernel t.places columns) taken
   once : (e : ℕ) → e < standing s → Apart (covered (taken_in e taken))
 
 module _ (s : Style) (columns : List Row) (d : Distinct columns) where
@@ -135,7 +135,7 @@ module _ (s : Style) (columns : List Row) (d : Distinct columns) where
           (subst (λ (n : ℕ). uncovered (covered (taken_in n taken)) ps ≡ true) (sym (equal_true e k.expression q)) t.1))
       go e m false q = subst (λ (x : List Taken). Apart (covered x)) (sym (append-nil (taken_in e taken))) (f.once e m)
 
-  fair_after : (kernels : List Kernel) (taken : List Taken) → All (λ (k : Kernel). k.expression < standing s) kernels → Fair s columns taken → Fair s columns (taken_after s columns taken kernels)
+  fair_after : (kernels : List Kernel) (taken : List Taken) → AllByRecursion (λ (k : Kernel). k.expression < standing s) kernels → Fair s columns taken → Fair s columns (taken_after s columns taken kernels)
   fair_after [] taken a f = f
   fair_after (k ∷ ks) taken a f = fair_after ks (cond (takes_next s columns taken k) (taken ++ take_of s columns k ∷ []) taken) a.1 (go (takes_next s columns taken k) refl)
     where

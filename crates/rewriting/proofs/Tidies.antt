@@ -1,6 +1,6 @@
 -- Closed styles stay closed.
 use Rattle.std.proofs.Common.{◌≡◌, ℕ, zero, suc, ◌+◌, ◌*◌, ◌<◌, ◌≤◌, Bool, true, false, cond, ◌⊎◌, List, [], ◌∷◌, ◌++◌, map, length, get_or, sym, refl, ap, ◌∙◌, subst, inl, inr, ⊎_elim, arith}
-use Rattle.std.specs.List.{AllByRecursion as All}
+use Rattle.std.specs.List.{AllByRecursion}
 use Rattle.std.proofs.ByRecursion.{All-append, All-map, All-get_or, All-weaker}
 use Rattle.std.proofs.lemmas.List.{length-map}
 use Rattle.std.proofs.lemmas.Bool.{cases_eq, cases_order, or_parts, or_from, both_ways}
@@ -27,15 +27,15 @@ pub one_place : (rows : List Row) → Distinct rows → (i j : ℕ) → i < leng
 one_place rows d i j h k e =
     ⊎_elim (λ q. q) (λ q. ⊎_elim (λ p. absurd (distinct_at rows d i j p k e)) (λ p. absurd (distinct_at rows d j i p h (λ l m. sym (e l m)))) q) (cases_order i j)
 
-distinct_append : (xs ys : List Row) → Distinct xs → Distinct ys → All (λ (x : Row). All (Other x) ys) xs → Distinct (xs ++ ys)
+distinct_append : (xs ys : List Row) → Distinct xs → Distinct ys → AllByRecursion (λ (x : Row). AllByRecursion (Other x) ys) xs → Distinct (xs ++ ys)
 distinct_append [] ys d e a = e
 distinct_append (x ∷ xs) ys d e a = (All-append (Other x) xs ys d.0 a.0, distinct_append xs ys d.1 e a.1)
 
-pub all_without : (P : Row → Type 0) (gone : ℕ → Bool) (rows : List Row) → All P rows → All P (without gone rows)
+pub all_without : (P : Row → Type 0) (gone : ℕ → Bool) (rows : List Row) → AllByRecursion P rows → AllByRecursion P (without gone rows)
 all_without P gone [] a = tt
 all_without P gone (r ∷ rs) a = go (gone 0) (all_without P (λ k. gone (suc k)) rs a.1)
   where
-    go : (b : Bool) → All P (without (λ k. gone (suc k)) rs) → All P (cond b (without (λ k. gone (suc k)) rs) (r ∷ without (λ k. gone (suc k)) rs))
+    go : (b : Bool) → AllByRecursion P (without (λ k. gone (suc k)) rs) → AllByRecursion P (cond b (without (λ k. gone (suc k)) rs) (r ∷ without (λ k. gone (suc k)) rs))
     go true h = h
     go false h = (a.0, h)
 
@@ -49,7 +49,7 @@ distinct_without gone (r ∷ rs) d = go (gone 0) (distinct_without (λ k. gone (
 
 -- what holds of co-kernel times column, since it is a row
 pub behind_each : (rows : List Row) (c : Powers) (Q : Row → Type 0) → ((k : ℕ) → k < length rows → (col : Row) → Alike (row_in rows k) (product_row c col) → Q col)
-    → (ks : List ℕ) (columns : List Row) → Behind rows c ks columns → All Q columns
+    → (ks : List ℕ) (columns : List Row) → Behind rows c ks columns → AllByRecursion Q columns
 behind_each rows c Q f [] [] b = tt
 behind_each rows c Q f [] (col ∷ cols) b = absurd b
 behind_each rows c Q f (k ∷ ks) [] b = absurd b
@@ -57,33 +57,33 @@ behind_each rows c Q f (k ∷ ks) (col ∷ cols) b = (f k b.0.0 col b.0.1, behin
 
 module _ (g n : ℕ) (rows : List Row) (t : Tidy g n rows) (columns : List Row) (c : Powers) (ks : List ℕ) (b : Behind rows c ks columns) where
   -- neither co-kernel nor column has other letters, nor together a higher degree
-  columns_below : All (λ (col : Row). (l : ℕ) → n ≤ l → l < letters → c l + col.cube l ≡ 0) columns
+  columns_below : AllByRecursion (λ (col : Row). (l : ℕ) → n ≤ l → l < letters → c l + col.cube l ≡ 0) columns
   columns_below = behind_each rows c _ (λ k h col a l m q. sym (a.cubes l q) ∙ All-get_or (Below n) rows k nothing h t.known l m q) ks columns b
 
-  columns_low : All (λ (col : Row). degree c + degree col.cube ≤ 25) columns
+  columns_low : AllByRecursion (λ (col : Row). degree c + degree col.cube ≤ 25) columns
   columns_low = behind_each rows c _ (λ k h col a. omega (arith, degree_same _ _ a.cubes, degree_product c col.cube, All-get_or Low rows k nothing h t.low)) ks columns b
 
-  columns_held : All (λ (col : Row). (l : ℕ) → 8 + g ≤ l → l < 16 → c l + col.cube l ≡ 0) columns
+  columns_held : AllByRecursion (λ (col : Row). (l : ℕ) → 8 + g ≤ l → l < 16 → c l + col.cube l ≡ 0) columns
   columns_held = behind_each rows c _ (λ k h col a l m q. sym (a.cubes l (omega arith)) ∙ All-get_or (Held g) rows k nothing h t.held l m q) ks columns b
 
   stand_in_held : (p : ℕ) → 1 ≤ length columns → 16 ≤ p → (m : Bool) → Held g (record { negative = m; cube = product c (letter p) })
   stand_in_held p one h m l q k = go columns one columns_held
     where
-      go : (cols : List Row) → 1 ≤ length cols → All (λ (col : Row). (l : ℕ) → 8 + g ≤ l → l < 16 → c l + col.cube l ≡ 0) cols → c l + letter p l ≡ 0
+      go : (cols : List Row) → 1 ≤ length cols → AllByRecursion (λ (col : Row). (l : ℕ) → 8 + g ≤ l → l < 16 → c l + col.cube l ≡ 0) cols → c l + letter p l ≡ 0
       go [] o a = absurd (omega arith)
       go (x ∷ xs) o a = let e : letter p l ≡ 0 = letter_other p l (λ r. omega arith) in omega (arith, a.0 l q k)
 
   stand_in_below : (p : ℕ) → 1 ≤ length columns → n ≤ p → (m : Bool) → Below (suc p) (record { negative = m; cube = product c (letter p) })
   stand_in_below p one h m l q k = go columns one columns_below
     where
-      go : (cols : List Row) → 1 ≤ length cols → All (λ (col : Row). (l : ℕ) → n ≤ l → l < letters → c l + col.cube l ≡ 0) cols → c l + letter p l ≡ 0
+      go : (cols : List Row) → 1 ≤ length cols → AllByRecursion (λ (col : Row). (l : ℕ) → n ≤ l → l < letters → c l + col.cube l ≡ 0) cols → c l + letter p l ≡ 0
       go [] o a = absurd (omega arith)
       go (x ∷ xs) o a = let e : letter p l ≡ 0 = letter_other p l (λ r. omega arith) in omega (arith, a.0 l (omega arith) k)
 
   stand_in_low : (p : ℕ) → p < letters → 2 ≤ length columns → Distinct columns → (m : Bool) → Low (record { negative = m; cube = product c (letter p) })
   stand_in_low p small two d m = go columns two d columns_low
     where
-      go : (cols : List Row) → 2 ≤ length cols → Distinct cols → All (λ (col : Row). degree c + degree col.cube ≤ 25) cols → degree (product c (letter p)) ≤ 25
+      go : (cols : List Row) → 2 ≤ length cols → Distinct cols → AllByRecursion (λ (col : Row). degree c + degree col.cube ≤ 25) cols → degree (product c (letter p)) ≤ 25
       go [] o d a = absurd (omega arith)
       go (x ∷ []) o d a = absurd (omega arith)
       go (x ∷ y ∷ zs) o d a = omega (arith, degree_product c (letter p), degree_letter p small, letter_among x y zs d, a.0, a.1.0)
@@ -116,21 +116,21 @@ module _ (p : ℕ) (rows : List Row) (d : Distinct rows) (col : Row) (cols : Lis
           both_ways (equal k j) (or_parts (equal k j) (has js k) m).0 (ap (equal k) (sym q) ∙ equal_refl k)
 
   other_ones : (t : Taken) (k : ℕ) → k < length rows → Alike (row_in rows k) (product_row t.co_kernel col)
-      → (us : List Taken) → All SetBehind us → has (covered us) k ≡ false → All (Other (stand_in p (col ∷ cols) t)) (map (stand_in p (col ∷ cols)) us)
+      → (us : List Taken) → AllByRecursion SetBehind us → has (covered us) k ≡ false → AllByRecursion (Other (stand_in p (col ∷ cols) t)) (map (stand_in p (col ∷ cols)) us)
   other_ones t k h a [] b n = tt
   other_ones t k h a (u ∷ us) b n =
       let q = has_parts u.places (covered us) k n in
       (other_one t k h a u b.0 q.0, other_ones t k h a us b.1 q.1)
 
-  stand_ins_distinct : (ts : List Taken) → All SetBehind ts → Apart (covered ts) → Distinct (map (stand_in p (col ∷ cols)) ts)
+  stand_ins_distinct : (ts : List Taken) → AllByRecursion SetBehind ts → Apart (covered ts) → Distinct (map (stand_in p (col ∷ cols)) ts)
   stand_ins_distinct [] b a = tt
   stand_ins_distinct (t ∷ ts) b a = (go t.places b.0 a, stand_ins_distinct ts b.1 (apart_right t.places (covered ts) a))
     where
-      go : (ks : List ℕ) → Behind rows t.co_kernel ks (col ∷ cols) → Apart (ks ++ covered ts) → All (Other (stand_in p (col ∷ cols) t)) (map (stand_in p (col ∷ cols)) ts)
+      go : (ks : List ℕ) → Behind rows t.co_kernel ks (col ∷ cols) → Apart (ks ++ covered ts) → AllByRecursion (Other (stand_in p (col ∷ cols) t)) (map (stand_in p (col ∷ cols)) ts)
       go [] c z = absurd c
       go (k ∷ ks) c z = other_ones t k c.0.0 c.0.1 ts b.1 (has_parts ks (covered ts) k z.0).1
 
-pub all_of : {X : Type 0} (P : X → Type 0) → ((x : X) → P x) → (xs : List X) → All P xs
+pub all_of : {X : Type 0} (P : X → Type 0) → ((x : X) → P x) → (xs : List X) → AllByRecursion P xs
 all_of P f [] = tt
 all_of P f (x ∷ xs) = (f x, all_of P f xs)
 
@@ -167,10 +167,10 @@ module _ (s : Style) (next : ℕ → List Row) (part : List Row) where
       positive_part k l (inr q) = subst (λ (n : ℕ). 1 ≤ n) (sym (at_old s next part positives (16 + k) (omega arith))) (pn k (omega arith))
 
 -- the part
-pub part_all : (P : Row → Type 0) → ((r : Row) → P r → P (positive r)) → (columns : List Row) → All P columns → All P (part_rows columns)
+pub part_all : (P : Row → Type 0) → ((r : Row) → P r → P (positive r)) → (columns : List Row) → AllByRecursion P columns → AllByRecursion P (part_rows columns)
 part_all P f columns a = go (all_negative columns)
   where
-    go : (b : Bool) → All P (cond b (map positive columns) columns)
+    go : (b : Bool) → AllByRecursion P (cond b (map positive columns) columns)
     go true = All-map P positive columns (All-weaker P (λ (r : Row). P (positive r)) f columns a)
     go false = a
 
@@ -224,7 +224,7 @@ module _ (s : Style) (columns : List Row) (taken : List Taken) (k : Takes s colu
             (All-weaker _ _ (λ u w. stand_in_held (length s.numerals) (standing s) old t columns u.co_kernel u.places w (standing s) (omega arith) (omega arith) (all_negative columns)) (taken_in e taken) b));
       }
     where
-      new : (cs : List Row) → 2 ≤ length cs → All (λ (u : Taken). Behind (s.expression e) u.co_kernel u.places cs) (taken_in e taken) → Distinct (map (stand_in (standing s) cs) (taken_in e taken))
+      new : (cs : List Row) → 2 ≤ length cs → AllByRecursion (λ (u : Taken). Behind (s.expression e) u.co_kernel u.places cs) (taken_in e taken) → Distinct (map (stand_in (standing s) cs) (taken_in e taken))
       new [] o b = absurd (omega arith)
       new (c ∷ cs) o b = stand_ins_distinct (standing s) (s.expression e) (z.tidy e l).apart c cs (taken_in e taken) b (k.once e l)
 
@@ -235,8 +235,8 @@ module _ (s : Style) (columns : List Row) (taken : List Taken) (k : Takes s colu
   tidy_part : Tidy (length s.numerals) (suc (standing s)) (part_rows columns)
   tidy_part = go taken k.some k.stands k.behind (λ e l. rows_at s columns taken k e l)
     where
-      go : (ts : List Taken) → 1 ≤ length ts → All (λ (t : Taken). t.expression < standing s) ts
-          → All (λ (t : Taken). Behind (s.expression t.expression) t.co_kernel t.places columns) ts
+      go : (ts : List Taken) → 1 ≤ length ts → AllByRecursion (λ (t : Taken). t.expression < standing s) ts
+          → AllByRecursion (λ (t : Taken). Behind (s.expression t.expression) t.co_kernel t.places columns) ts
           → ((e : ℕ) → e < standing s → (rest : ℕ) × (length (s.expression e) ≡ length (taken_in e ts) * length columns + rest)
           × (length (rewritten (standing s) columns (taken_in e taken) (s.expression e)) ≡ length (taken_in e taken) + rest))
           → Tidy (length s.numerals) (suc (standing s)) (part_rows columns)
@@ -329,11 +329,11 @@ module _ (s : Style) (cube : Powers) (k : Shares s cube) (z : Closed s) where
       go false e true f q = omega (arith, q p k.letter_left, b p (omega arith) k.letter_left, here)
       go false e false f q = o q
 
-  share_distinct : (rows : List Row) → Distinct rows → All (Below p) rows → Distinct (map (shared_row p cube) rows)
+  share_distinct : (rows : List Row) → Distinct rows → AllByRecursion (Below p) rows → Distinct (map (shared_row p cube) rows)
   share_distinct [] d b = tt
   share_distinct (r ∷ rs) d b = (go rs d.0 b.1, share_distinct rs d.1 b.1)
     where
-      go : (xs : List Row) → All (Other r) xs → All (Below p) xs → All (Other (shared_row p cube r)) (map (shared_row p cube) xs)
+      go : (xs : List Row) → AllByRecursion (Other r) xs → AllByRecursion (Below p) xs → AllByRecursion (Other (shared_row p cube r)) (map (shared_row p cube) xs)
       go [] o c = tt
       go (x ∷ xs) o c = (share_other r x b.0 c.0 o.0, go xs o.1 c.1)
 

@@ -1,6 +1,6 @@
 -- What holds of every closed style.
 use Rattle.std.specs.Prelude.{◌≡◌, ℕ, ◌+◌, ◌<◌, ◌≤◌, cond, List, length}
-use Rattle.std.specs.List.{AllByRecursion as All}
+use Rattle.std.specs.List.{AllByRecursion}
 use Rattle.algebra.specs.Cubes.{letters}
 use Rattle.algebra.specs.Rows.{Distinct, Row, degree}
 use Rattle.algebra.specs.Sums.{counting, total}
@@ -25,9 +25,9 @@ Held k r = (l : ℕ) → 8 + k ≤ l → l < 16 → r.cube l ≡ 0
 pub record Tidy (k n : ℕ) (e : List Row) : Type 0 where
   pub few : length e ≤ 8
   pub apart : Distinct e
-  pub known : All (Below n) e
-  pub low : All Low e
-  pub held : All (Held k) e
+  pub known : AllByRecursion (Below n) e
+  pub low : AllByRecursion Low e
+  pub held : AllByRecursion (Held k) e
 
 -- At most sixteen parts; every expression that stands has at most eight rows, no two with the same cube, letters of numerals
 -- held and of parts that stand only, and degrees of at most 25; every part has a positive row.

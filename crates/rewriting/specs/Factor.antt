@@ -1,6 +1,6 @@
 -- Factor as a rewriting: in each taken kernel's expression the covered rows go, the rest close up, and co-kernel times part is appended.
 use Rattle.std.specs.Prelude.{◌≡◌, ℕ, suc, ◌+◌, ◌-◌, ◌*◌, ◌<◌, ◌≤◌, Bool, false, cond, ◌||◌, List, [], ◌∷◌, ◌++◌, map, length}
-use Rattle.std.specs.List.{flat_map, AllByRecursion as All}
+use Rattle.std.specs.List.{flat_map, AllByRecursion}
 use Rattle.algebra.specs.Counts.{all_negative, less_one, multiplications}
 use Rattle.algebra.specs.Cubes.{Powers, letter, letters, product}
 use Rattle.algebra.specs.Rows.{Alike, Row, degree, row_in}
@@ -56,8 +56,8 @@ pub record Takes (s : Style) (columns : List Row) (taken : List Taken) : Type 0 
   pub two : 2 ≤ length columns
   pub some : 1 ≤ length taken
   pub letter_left : standing s < letters
-  pub stands : All (λ (t : Taken). t.expression < standing s) taken
-  pub behind : All (λ (t : Taken). Behind (s.expression t.expression) t.co_kernel t.places columns) taken
+  pub stands : AllByRecursion (λ (t : Taken). t.expression < standing s) taken
+  pub behind : AllByRecursion (λ (t : Taken). Behind (s.expression t.expression) t.co_kernel t.places columns) taken
   pub once : (e : ℕ) → e < standing s → Apart (covered (taken_in e taken))
 
 -- the part, held positive where all columns are negative; and the row that stands for a taken kernel, negative then

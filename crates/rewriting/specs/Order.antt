@@ -1,6 +1,6 @@
 -- The making order.
 use Rattle.std.specs.Prelude.{◌≡◌, ℕ, zero, suc, ◌<◌, ◌≤◌, Bool, true, false, cond, ◌||◌, ◌⊎◌, List, [], ◌∷◌, map}
-use Rattle.std.specs.List.{AllByRecursion as All}
+use Rattle.std.specs.List.{AllByRecursion}
 use Rattle.algebra.specs.Cubes.{Powers, letters}
 use Rattle.algebra.specs.Rows.{Row, divides_test}
 use Rattle.rewriting.specs.Factor.{Apart, Taken, has}
@@ -37,11 +37,11 @@ MadeOf seen r = (l : ℕ) → 16 ≤ l → l < letters → (r.cube l ≡ 0) ⊎ 
 -- each expression has only letters of parts that come before it
 abbrev pub Backwards : (ℕ → List Row) → List ℕ → List ℕ → Type 0
 Backwards rows seen [] = Unit {0}
-Backwards rows seen (e ∷ es) = All (MadeOf seen) (rows e) × Backwards rows (e ∷ seen) es
+Backwards rows seen (e ∷ es) = AllByRecursion (MadeOf seen) (rows e) × Backwards rows (e ∷ seen) es
 
 -- each expression that stands is there once, and uses only parts before it
 pub record Ordered (s : Style) (order : List ℕ) : Type 0 where
   pub once : Apart order
   pub there : (e : ℕ) → e < standing s → has order e ≡ true
-  pub stand : All (λ (e : ℕ). e < standing s) order
+  pub stand : AllByRecursion (λ (e : ℕ). e < standing s) order
   pub backwards : Backwards s.expression [] order

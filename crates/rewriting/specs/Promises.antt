@@ -1,6 +1,6 @@
 -- The theorems, as the contracts name them.
 use Rattle.std.specs.Prelude.{◌≡◌, ℕ, ◌+◌, ◌<◌, ◌≤◌, List, length}
-use Rattle.std.specs.List.{AllByRecursion as All}
+use Rattle.std.specs.List.{AllByRecursion}
 use Rattle.ring.specs.Ring.{CommRing}
 use Rattle.algebra.specs.Counts.{additions, multiplications, negations}
 use Rattle.algebra.specs.Cubes.{Powers, letters}
@@ -33,7 +33,7 @@ FactorSaves =
 abbrev pub TakingFits : Type 0
 TakingFits =
     (s : Style) (columns : List Row) (kernels : List Kernel) → standing s < letters → 2 ≤ length columns → Distinct columns
-    → All (λ (k : Kernel). k.expression < standing s) kernels → 1 ≤ length (taken_by s columns kernels)
+    → AllByRecursion (λ (k : Kernel). k.expression < standing s) kernels → 1 ≤ length (taken_by s columns kernels)
     → Takes s columns (taken_by s columns kernels)
 
 -- The same of share: (R - 1)(k - 1) multiplications are saved, where the cube has degree k and divides R rows. That is at least one.
@@ -124,7 +124,7 @@ pub record FairCandidate (s : Style) (kernels : List Kernel) (p n : ℕ) : Type 
 
 abbrev pub CandidatesFair : Type 0
 CandidatesFair =
-    (s : Style) (kernels : List Kernel) → Closed s → standing s < letters → All (λ (k : Kernel). k.expression < standing s) kernels
+    (s : Style) (kernels : List Kernel) → Closed s → standing s < letters → AllByRecursion (λ (k : Kernel). k.expression < standing s) kernels
     → (p n : ℕ) → Candidate s kernels p n → FairCandidate s kernels p n
 
 -- Two rows with a common cube of degree two or more are what share may take; where no two rows have one, no cube of degree two or more divides two rows.

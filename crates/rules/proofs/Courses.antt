@@ -1,5 +1,5 @@
 -- What follows from the course of a settle.
-use Rattle.std.proofs.Common.{◌≡◌, ℕ, ◌+◌, List, take, sym, refl, ◌∙◌, subst, subst₂, add_assoc, zero_add, arith}
+use Rattle.std.proofs.Common.{◌≡◌, ℕ, ◌+◌, List, take, sym, refl, ◌∙◌, subst, subst₂, add_assoc, zero-add, arith}
 use Rattle.kernels.specs.declared.kernel.Kernel.{Kernel}
 use Rattle.rewriting.specs.Presses.{Presses, more, none}
 use Rattle.rewriting.specs.Styles.{Style}
@@ -15,7 +15,7 @@ use Rattle.rules.specs.Settling.{Course, LeavesNothing, Turn, factored, factorin
 use Rattle.rules.proofs.Follows.{factor_onward, share_onward}
 
 pub presses_then : {r r₁ r₂ : Style} {k b k' b' : ℕ} → Presses r r₁ k b → Presses r₁ r₂ k' b' → Presses r r₂ (k + k') (b + b')
-presses_then {r} {r₂} {k'} {b'} none q = subst₂ (Presses r r₂) (sym (zero_add k')) (sym (zero_add b')) q
+presses_then {r} {r₂} {k'} {b'} none q = subst₂ (Presses r r₂) (sym (zero-add k')) (sym (zero-add b')) q
 presses_then {r} {r₂} {k'} {b'} (more {m} {a} {m'} {a'} p ps) q = subst₂ (Presses r r₂) (sym (add_assoc m m' k')) (sym (add_assoc a a' b')) (more p (presses_then ps q))
 
 -- a course of presses, and a sound table
@@ -40,7 +40,7 @@ course_onward w (full_parts {t} {t₁} f) z = stays t t₁ f.0 z
 course_onward w (shared {t} {t₁} {t'} {l} {l'} {a} {r} f c) z =
     let one = share_onward t t₁ a z f.0 f.1 in
     let rest = course_onward w c one.sound in
-    record { presses = subst (λ (n : ℕ). Presses (style_of t) (style_of t') (a.multiplications + r.multiplications) n) (zero_add r.additions) (more one.press rest.presses); sound = rest.sound }
+    record { presses = subst (λ (n : ℕ). Presses (style_of t) (style_of t') (a.multiplications + r.multiplications) n) (zero-add r.additions) (more one.press rest.presses); sound = rest.sound }
 course_onward w (no_part {t} {t₁} f) z = stays t t₁ f.0 z
 course_onward w (no_cube {t} {t₁} f) z = stays t t₁ f.0 z
 

@@ -1,6 +1,6 @@
 -- What follows from the rules: accepted calls are presses, and lead from sound tables to sound tables.
 use Rattle.std.proofs.Common.{◌≡◌, ℕ, ◌+◌, ◌-◌, ◌<◌, ◌≤◌, false, List, [], ◌∷◌, ◌++◌, map, length, take, sym, refl, ap, ◌∙◌, subst, subst₂, add-zero, arith, length-take}
-use Rattle.std.specs.List.{AllByRecursion as All}
+use Rattle.std.specs.List.{AllByRecursion}
 use Rattle.std.proofs.ByRecursion.{All-append, All-from_get_or, All-map, All-weaker}
 use Rattle.algebra.specs.Counts.{additions, multiplications, negations}
 use Rattle.algebra.specs.Cubes.{letters}
@@ -30,20 +30,20 @@ use Rattle.rules.specs.declared.answers.ShareAnswer.{ShareAnswer}
 use Rattle.rules.specs.Calls.{FactorMade, KernelsOf, ShareMade, named}
 
 -- the kernels of a list are of the expressions that it goes through
-joined_stand : (n : ℕ) (es : List Expression) (xs : List Kernel) → JoinedFrom n es xs → All (λ (x : Kernel). x.expression < n + length es) xs
-joined_stand n [] xs j = subst (All (λ (x : Kernel). x.expression < n + 0)) (sym j) tt
+joined_stand : (n : ℕ) (es : List Expression) (xs : List Kernel) → JoinedFrom n es xs → AllByRecursion (λ (x : Kernel). x.expression < n + length es) xs
+joined_stand n [] xs j = subst (AllByRecursion (λ (x : Kernel). x.expression < n + 0)) (sym j) tt
 joined_stand n (e ∷ es) xs j =
     let ys = j.0 in
     let zs = j.1 in
-    let first : All (λ (x : Kernel). x.expression < n + length (e ∷ es)) ys =
+    let first : AllByRecursion (λ (x : Kernel). x.expression < n + length (e ∷ es)) ys =
     All-from_get_or (λ (x : Kernel). x.expression < n + length (e ∷ es)) ys no_kernel (λ i l. omega (arith, (j.2.sound i l).number))
     in
-    let rest : All (λ (x : Kernel). x.expression < n + length (e ∷ es)) zs =
+    let rest : AllByRecursion (λ (x : Kernel). x.expression < n + length (e ∷ es)) zs =
     All-weaker (λ (x : Kernel). x.expression < (n + 1) + length es) (λ (x : Kernel). x.expression < n + length (e ∷ es)) (λ x h. omega arith) zs (joined_stand (n + 1) es zs j.3)
     in
-    subst (All (λ (x : Kernel). x.expression < n + length (e ∷ es))) (sym j.4) (All-append (λ (x : Kernel). x.expression < n + length (e ∷ es)) ys zs first rest)
+    subst (AllByRecursion (λ (x : Kernel). x.expression < n + length (e ∷ es))) (sym j.4) (All-append (λ (x : Kernel). x.expression < n + length (e ∷ es)) ys zs first rest)
 
-pub kernels_stand : (t : Table) (xs : List Kernel) → KernelsOf t xs → All (λ (k : Name). k.expression < standing (style_of t)) (named xs)
+pub kernels_stand : (t : Table) (xs : List Kernel) → KernelsOf t xs → AllByRecursion (λ (k : Name). k.expression < standing (style_of t)) (named xs)
 kernels_stand t xs j =
     All-map (λ (k : Name). k.expression < standing (style_of t)) (λ (x : Kernel). record { expression = x.expression; co_kernel = power x.cokernel }) xs
     (All-weaker _ (λ (x : Kernel). x.expression < standing (style_of t)) (λ x h. omega (arith, length-take (standing_in t) t.expressions)) xs (joined_stand 0 (take (standing_in t) t.expressions) xs j))

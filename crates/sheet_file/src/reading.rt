@@ -1,6 +1,6 @@
 ghost use Rattle.std.specs.Prelude.{◌≡◌, ℕ, ◌+◌, ◌*◌, ◌<◌, ◌≤◌, length, drop, Ok, Err, vec_len};
 ghost use Rattle.std.specs.List.{between};
-ghost use Rattle.sheet.specs.declared.sheet.Sheet.{Sheet as Made-sheet};
+ghost use Rattle.sheet.specs.declared.sheet.Sheet.{Sheet as MadeSheet};
 ghost use Rattle.sheet.specs.Parts.{sheet_steps, sheet_behind, SameSheet};
 ghost use Rattle.sheet_file.specs.File.{sheet_bytes};
 ghost use Rattle.sheet_file.specs.Reading.{RefusedAt};
@@ -91,7 +91,7 @@ fn check(file: &[u8], room: usize) -> Result<Checked, Fault>
 // Reads a file into a sheet whose steps stand in the buffer.
 pub fn read(file: &[u8], mut buffer: Vec<Step>) -> Result<Sheet, ReadRefused>
     ensures answer { elim result [ Ok s ↦ (sheet_bytes s ≡ file.now) × (sheet_behind s ≡ drop (length (sheet_steps s)) buffer.items) | Err e ↦ (e.buffer ≡ buffer) × RefusedAt e.why e.place file.now (vec_len buffer) ] }
-    ensures known { (s : Made-sheet) → sheet_bytes s ≡ file.now → length (sheet_steps s) ≤ vec_len buffer → elim result [ Ok t ↦ SameSheet s t | Err _ ↦ ⊥ ] }
+    ensures known { (s : MadeSheet) → sheet_bytes s ≡ file.now → length (sheet_steps s) ≤ vec_len buffer → elim result [ Ok t ↦ SameSheet s t | Err _ ↦ ⊥ ] }
 {
     let checked = match check(file, buffer.len()) {
         Ok(checked) => checked,
