@@ -2,7 +2,7 @@
 use Rattle.std.proofs.Common.{◌≡◌, ℕ, ◌+◌, ◌<◌, ◌≤◌, ◌⊎◌, length, Some, None, Option, sym, ap, ◌∙◌, subst, inl, inr, arith}
 use Rattle.std.proofs.lemmas.Bool.{cases_eq, cases_lt}
 use Rattle.cubes.specs.Powers.{power}
-use Rattle.rewriting.specs.Sharing.{Ahead, BestPair, MetBefore, NoPair, Sharing, Spot, pair_saving, shared_cube}
+use Rattle.rewriting.specs.Sharing.{Ahead, MetBefore, NoPair, Sharing, Spot, pair_saving, shared_cube}
 use Rattle.rewriting.specs.Styles.{Style, standing}
 use Rattle.sharing.specs.Pairs.{Best, Better, Leads, KnownSoFar, Told, Weighed, at, spot}
 use Rattle.sharing.specs.declared.pair.Pair.{Pair}

@@ -1,5 +1,5 @@
 -- A cube shared out of a table.
-use Rattle.std.specs.Prelude.{◌≡◌, ℕ, ◌<◌, ◌⊎◌, List, map}
+use Rattle.std.specs.Prelude.{◌≡◌, ℕ, ◌<◌, ◌⊎◌, map}
 use Rattle.std.specs.List.{AllZip}
 use Rattle.algebra.specs.Cubes.{Powers, letters}
 use Rattle.algebra.specs.Rows.{Alike}

@@ -1,4 +1,4 @@
-use Rattle.std.proofs.Common.{◌+◌, ◌<◌, ◌≤◌, sym, arith}
+use Rattle.std.proofs.Common.{sym, arith}
 use Rattle.algebra.specs.Sums.{counting}
 use Rattle.algebra.proofs.Sums.{up_to_none}
 use Rattle.cubes.specs.Powers.{power}

@@ -1,4 +1,4 @@
-use Rattle.std.proofs.Common.{◌≡◌, sym, ◌∙◌, inl, inr}
+use Rattle.std.proofs.Common.{sym, ◌∙◌, inl, inr}
 use Rattle.cubes.specs.Expressions.{rows_of}
 use Rattle.sharing.proofs.Outs.{shared_out}
 use Rattle.sharing.proofs.out.share_out.Goals as goal

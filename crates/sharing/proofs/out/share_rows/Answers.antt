@@ -1,4 +1,4 @@
-use Rattle.std.proofs.Common.{◌≡◌, ℕ, ◌<◌, ◌≢◌, List, [], map, length, get_or, sym, refl, ap, ◌∙◌, subst, subst₂, arith, length-set, below_more}
+use Rattle.std.proofs.Common.{◌≡◌, ℕ, ◌<◌, ◌≢◌, List, [], map, length, get_or, sym, ◌∙◌, subst, subst₂, arith, length-set, below_more}
 use Rattle.std.specs.List.{AllZip}
 use Rattle.std.proofs.lemmas.List.{get_or-map}
 use Rattle.algebra.specs.Rows.{Alike}

@@ -4,7 +4,7 @@ use Rattle.sharing.specs.Pairs.{KnownSoFar, at, spot}
 use Rattle.sharing.proofs.Bests.{so_far_better, so_far_second_over, so_far_skip}
 use Rattle.sharing.proofs.Rows.{rows_all, stands_there}
 use Rattle.sharing.proofs.search.best_second_in.Goals as goal
-use Rattle.sharing.proofs.search.best_second_in.Goals.{in-Some, in-default}
+use Rattle.sharing.proofs.search.best_second_in.Goals.{in-Some, in_default}
 
 pub weigh-requires : goal.weigh-requires
 weigh-requires c = record {
@@ -22,8 +22,8 @@ loop-row-preserved c =
       | in-Some w ↦
           subst (KnownSoFar s (spot first) (at e (k + 1))) (sym w.best-is)
           (so_far_better s first (record { expression = e; row = k }) w.in-Some.x w.in-Some.ensures c.loop-row.best w.better.result w.better.ensures c.loop-row.invariant)
-      | in-default w ↦
-          subst (KnownSoFar s (spot first) (at e (k + 1))) (sym w.best-is) (so_far_skip s (spot first) e k w.in-default.ensures c.loop-row.best c.loop-row.invariant)
+      | in_default w ↦
+          subst (KnownSoFar s (spot first) (at e (k + 1))) (sym w.best-is) (so_far_skip s (spot first) e k w.in_default.ensures c.loop-row.best c.loop-row.invariant)
     ]
 
 pub returns : goal.returns

@@ -24,8 +24,8 @@ returns-then-degree-lt-LEAST_DEGREE c =
     let t = c.args.table.now in
     let x = spot c.args.first in
     let y = spot c.args.second in
-    let a = power c.common_cube.result in
-    let same = common_there t x y c.requires.first c.requires.second c.rows.result.now c.rows-2.result.now c.rows.ensures c.rows-2.ensures a c.common_cube.ensures in
+    let a = power c.common-cube.result in
+    let same = common_there t x y c.requires.first c.requires.second c.rows.result.now c.rows-2.result.now c.rows.ensures c.rows-2.ensures a c.common-cube.ensures in
     λ p. omega (arith, p.high, degree_same a (shared_cube (style_of t) x y) same, c.degree-degree.ensures.is, c.if-degree-lt-LEAST_DEGREE.true)
 
 pub returns : goal.returns
@@ -33,8 +33,8 @@ returns c =
     let t = c.args.table.now in
     let x = spot c.args.first in
     let y = spot c.args.second in
-    let a = power c.common_cube.result in
-    let same = common_there t x y c.requires.first c.requires.second c.rows.result.now c.rows-2.result.now c.rows.ensures c.rows-2.ensures a c.common_cube.ensures in
+    let a = power c.common-cube.result in
+    let same = common_there t x y c.requires.first c.requires.second c.rows.result.now c.rows-2.result.now c.rows.ensures c.rows-2.ensures a c.common-cube.ensures in
     record {
       told = record {
         cube = same;
