@@ -3,7 +3,7 @@ use Rattle.sheet.specs.Numerals.{numerals_list}
 use Rattle.sheet.proofs.Rules.{length_numerals}
 use Rattle.opening.proofs.Numerals.{length_new, length_old}
 use Rattle.opening.proofs.style.OpenStyle.check_room.Goals as goal
-use Rattle.opening.proofs.style.OpenStyle.check_room.Goals.{else-is-new-via-then-is-new+else-count-ge-NUMERALS, else-is-new-via-else-is-new}
+use Rattle.opening.proofs.style.OpenStyle.check_room.Goals.{else-is_new-via-then-is_new+else-count-ge-NUMERALS, else-is_new-via-else-is_new}
 
 pub returns : goal.returns
 returns c =

@@ -42,13 +42,12 @@ pub invariant_of-self : goal.invariant_of-self
 invariant_of-self c =
     let m = c.in_ok-magnitude.magnitude in
     let z = to_z-of_z w64 c.args.coefficient c.ranges.coefficient in
-    let checked = subst (λ (n : ℤ). Admissible (term_of c.args.formula n c.args.powers.now) × (m ≡ nat_abs n)) z c.in_ok-magnitude.ensures in (
-      noted_next c.args.self.now (term_of c.args.formula c.args.coefficient c.args.powers.now) checked.0 m c.place_of-place.result checked.1
+    let checked = subst (λ (n : ℤ). Admissible (term_of c.args.formula n c.args.powers.now) × (m ≡ nat_abs n)) z c.in_ok-magnitude.ensures in record {
+      noted = noted_next c.args.self.now (term_of c.args.formula c.args.coefficient c.args.powers.now) checked.0 m c.place_of-place.result checked.1
           (c.place_of-place.ensures ∙ ap (λ (xs : List ℕ). place xs m) c.as_slice.ensures) c.cube_of-cube.result c.cube_of-cube.ensures
           c.in_ok-check_room.ensures c.sign_of.result (c.sign_of.ensures ∙ ap (λ (n : ℤ). not (non_neg n)) z)
-          c.add_row.new.table c.hold_numeral.new.table c.add_row.ensures c.hold_numeral.ensures,
-      tt,
-    )
+          c.add_row.new.table c.hold_numeral.new.table c.add_row.ensures c.hold_numeral.ensures;
+    }
 
 pub returns : goal.returns
 returns c =
