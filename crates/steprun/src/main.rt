@@ -1,7 +1,7 @@
 // steprun FILE KIND M0 .. M7: runs a sheet file at eight measures and prints the value of each formula.
 #![tactic(auto)]
 
-use anyhow::anyhow;
+use std::process::ExitCode;
 use std::{env, fs};
 use tablet::{Answer, Kind, Outcome, answer_for};
 
@@ -10,7 +10,7 @@ const WORDS: [&str; 10] = [
 ];
 
 // Says how the program is used and which word is wrong; the run has failed.
-fn misused(rt: &HostRuntime, name: &str, why: &str) -> anyhow::Result<()> {
+fn misused(rt: &HostRuntime, name: &str, why: &str) -> anyhow::Result<ExitCode> {
     eprintln!(rt; "{name} {why}")?;
     eprintln!(rt; "usage: steprun FILE KIND M0 M1 M2 M3 M4 M5 M6 M7")?;
     eprintln!(rt; "  KIND is word, wheel or pair")?;
@@ -18,10 +18,10 @@ fn misused(rt: &HostRuntime, name: &str, why: &str) -> anyhow::Result<()> {
         "  a measure is a decimal number below 4294967296, for the wheel below 97, with a minus for its opposite"
     )?;
     eprintln!(rt; "  for pairs it is VALUE:RATE, both such numbers")?;
-    Err(anyhow!("wrong use"))
+    Ok(ExitCode::FAILURE)
 }
 
-fn wrong_measure(rt: &HostRuntime, at: usize, word: &str) -> anyhow::Result<()> {
+fn wrong_measure(rt: &HostRuntime, at: usize, word: &str) -> anyhow::Result<ExitCode> {
     eprintln!(rt; "the measure is given as: {word}")?;
     misused(
         rt,
@@ -30,22 +30,22 @@ fn wrong_measure(rt: &HostRuntime, at: usize, word: &str) -> anyhow::Result<()> 
     )
 }
 
-fn tell(rt: &HostRuntime, outcome: Outcome) -> anyhow::Result<()> {
+fn tell(rt: &HostRuntime, outcome: Outcome) -> anyhow::Result<ExitCode> {
     match outcome {
         Outcome::Report(text) => {
             rt.print(text.as_str())?;
-            Ok(())
+            Ok(ExitCode::SUCCESS)
         }
         Outcome::Refused { why, place } => {
             let number = why.number();
             println!(rt; "refused {number} {place}")?;
-            Err(anyhow!("refused"))
+            Ok(ExitCode::FAILURE)
         }
         Outcome::NotRun(_) => misused(rt, "M0 to M7", "are to be eight measures"),
     }
 }
 
-fn steprun(rt: &HostRuntime, words: &[String]) -> anyhow::Result<()> {
+fn steprun(rt: &HostRuntime, words: &[String]) -> anyhow::Result<ExitCode> {
     if words.len() < 10 {
         return misused(rt, WORDS[words.len()], "is missing");
     }
@@ -70,7 +70,7 @@ fn steprun(rt: &HostRuntime, words: &[String]) -> anyhow::Result<()> {
     }
 }
 
-fn main(rt: HostRuntime) -> anyhow::Result<()> {
+fn main(rt: HostRuntime) -> anyhow::Result<ExitCode> {
     let words: Vec<String> = env::args(&rt)?.skip(1).collect(rt.alloc())?;
     steprun(&rt, &words)
 }
