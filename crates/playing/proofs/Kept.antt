@@ -1,28 +1,24 @@
 -- The promise follows from the rules.
-use Rattle.std.proofs.Common.{◌≡◌, ℕ, zero, suc, ◌+◌, ◌<◌, ◌≤◌, Bool, List, map, length, get_or, take, Ok, Err, vec_items, Result, Vec, sym, refl, ap, ◌∙◌, subst, subst₂, arith}
+use Rattle.std.proofs.Common.{◌≡◌, ℕ, zero, suc, ◌+◌, ◌≤◌, Bool, List, map, length, get_or, take, Ok, Err, vec_items, Vec, sym, refl, ap, ◌∙◌, subst, subst₂, arith}
 use Rattle.std.specs.declared.alloc.Global.{Global}
 use Rattle.ring.specs.Ring.{CommRing}
-use Rattle.algebra.specs.Worth.{worth}
-use Rattle.algebra.specs.Counts.{additions, multiplications, negations}
 use Rattle.sheet.specs.declared.operand.Operand.{Operand}
 use Rattle.sheet.specs.declared.operand.Operand.TheVariants.{Zero}
 use Rattle.sheet.specs.declared.operation.Operation.{Operation}
 use Rattle.sheet.specs.declared.sheet.Sheet.{Sheet}
 use Rattle.sheet.specs.declared.step.Step.{Step}
 use Rattle.sheet.specs.Counting.{adds, how_many, multiplies, negates}
-use Rattle.sheet.specs.Numerals.{numerals_list}
-use Rattle.sheet.specs.Parts.{sheet_numerals, sheet_outputs, sheet_steps}
-use Rattle.sheet.specs.Values.{OutputValues, StepValues, operand_value}
+use Rattle.sheet.specs.Parts.{sheet_outputs, sheet_steps}
+use Rattle.sheet.specs.Values.{StepValues, operand_value}
 use Rattle.sheet.proofs.Rules.{length_numerals}
 use Rattle.tablet.specs.Evaluating.{Worth}
-use Rattle.emission.specs.Promises.{EmittedValues, steps_of}
+use Rattle.emission.specs.Promises.{steps_of}
 use Rattle.emission.specs.Steps.{emit_outputs}
 use Rattle.emission.proofs.Counting.{emit_counts}
 use Rattle.emission.proofs.Makings.{emit_values}
 use Rattle.kernels.specs.declared.kernel.Kernel.{Kernel}
-use Rattle.rewriting.specs.Book.{Term, accepted, formula_value, under, written}
-use Rattle.rewriting.specs.Presses.{Like, Presses, more, none}
-use Rattle.rewriting.specs.Styles.{Fits, Style, over}
+use Rattle.rewriting.specs.Book.{Term, accepted, written}
+use Rattle.rewriting.specs.Presses.{more, none}
 use Rattle.rewriting.proofs.Books.{written_worth}
 use Rattle.rewriting.proofs.Chains.{like_kept, like_lowers, presses_keep_worth, presses_lower}
 use Rattle.table.specs.declared.table.Table.{Table}

@@ -1,5 +1,5 @@
 -- What follows from the course of a settle.
-use Rattle.std.proofs.Common.{◌≡◌, ℕ, ◌+◌, List, take, sym, refl, ◌∙◌, subst, subst₂, add_assoc, zero-add, arith}
+use Rattle.std.proofs.Common.{◌≡◌, ℕ, ◌+◌, List, take, sym, subst, subst₂, add_assoc, zero-add, arith}
 use Rattle.kernels.specs.declared.kernel.Kernel.{Kernel}
 use Rattle.rewriting.specs.Presses.{Presses, more, none}
 use Rattle.rewriting.specs.Styles.{Style}
@@ -8,8 +8,7 @@ use Rattle.table.specs.declared.table.Table.{Table}
 use Rattle.table.specs.Of.{style_of}
 use Rattle.table.specs.Sound.{Sound}
 use Rattle.rules.specs.declared.answers.SettleAnswer.{SettleAnswer}
-use Rattle.rules.specs.declared.refusals.SettleEnd.{SettleEnd}
-use Rattle.rules.specs.declared.refusals.SettleEnd.TheVariants.{FullParts, NothingLeft, ShortList}
+use Rattle.rules.specs.declared.refusals.SettleEnd.TheVariants.{NothingLeft}
 use Rattle.rules.specs.Calls.{KernelsOf, NothingToFactor}
 use Rattle.rules.specs.Settling.{Course, LeavesNothing, Turn, factored, factoring, full_parts, no_cube, no_gain, no_part, shared, sharing, short_list}
 use Rattle.rules.proofs.Follows.{factor_onward, share_onward}

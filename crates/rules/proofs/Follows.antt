@@ -1,8 +1,7 @@
 -- What follows from the rules: accepted calls are presses, and lead from sound tables to sound tables.
-use Rattle.std.proofs.Common.{◌≡◌, ℕ, ◌+◌, ◌-◌, ◌<◌, ◌≤◌, false, List, [], ◌∷◌, ◌++◌, map, length, take, sym, refl, ap, ◌∙◌, subst, subst₂, add-zero, arith, length-take}
+use Rattle.std.proofs.Common.{◌≡◌, ℕ, ◌+◌, ◌<◌, List, [], ◌∷◌, length, take, sym, subst, subst₂, add-zero, arith, length-take}
 use Rattle.std.specs.List.{AllByRecursion}
 use Rattle.std.proofs.ByRecursion.{All-append, All-from_get_or, All-map, All-weaker}
-use Rattle.algebra.specs.Counts.{additions, multiplications, negations}
 use Rattle.algebra.specs.Cubes.{letters}
 use Rattle.cubes.specs.declared.expression.Expression.{Expression}
 use Rattle.cubes.specs.Powers.{power}
@@ -13,8 +12,8 @@ use Rattle.rewriting.specs.Choosing.{column_set, factored_with, taken_with}
 use Rattle.rewriting.specs.Factor.{additions_saved, multiplications_saved}
 use Rattle.rewriting.specs.Order.{Ordered}
 use Rattle.rewriting.specs.Presses.{Press, Presses, by_factor, by_share, more, none}
-use Rattle.rewriting.specs.Share.{Shares, products_saved, shared}
-use Rattle.rewriting.specs.Styles.{Style, over, standing}
+use Rattle.rewriting.specs.Share.{Shares, shared}
+use Rattle.rewriting.specs.Styles.{Style, standing}
 use Rattle.rewriting.specs.Taking.{Kernel as Name}
 use Rattle.rewriting.proofs.Chains.{presses_lower}
 use Rattle.rewriting.proofs.Chosen.{candidates_fair}

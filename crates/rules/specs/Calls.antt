@@ -1,5 +1,5 @@
 -- The calls on a closed style: what each answers, and what it leaves in the table and in the list.
-use Rattle.std.specs.Prelude.{◌≡◌, ℕ, ◌+◌, ◌<◌, ◌≤◌, false, List, map, length, take, drop, Ok, Err, Result}
+use Rattle.std.specs.Prelude.{◌≡◌, ℕ, ◌<◌, ◌≤◌, false, List, map, length, take, drop, Ok, Err, Result}
 use Rattle.std.specs.List.{AllZip}
 use Rattle.algebra.specs.Counts.{additions, multiplications}
 use Rattle.algebra.specs.Cubes.{Powers, Same}
@@ -19,7 +19,7 @@ use Rattle.rewriting.specs.Choosing.{Best, GainsNothing, column_set, factored_wi
 use Rattle.rewriting.specs.Order.{factored_from, put, shared_from}
 use Rattle.rewriting.specs.Presses.{Like}
 use Rattle.rewriting.specs.Share.{divided, products_saved, shared}
-use Rattle.rewriting.specs.Sharing.{BestPair, NoPair, NothingShared, Spot, shared_cube}
+use Rattle.rewriting.specs.Sharing.{BestPair, NoPair, Spot, shared_cube}
 use Rattle.rewriting.specs.Styles.{over}
 use Rattle.rewriting.specs.Taking.{Kernel as Name}
 use Rattle.table.specs.declared.table.Table.{Table}
