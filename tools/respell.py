@@ -138,28 +138,26 @@ def turn_rt(text, own, fields):
     return out
 
 
+def rewritten(path, how, own, fields):
+    """Whether the file changed."""
+    old = read(path)
+    new = how(old, own, fields)
+    if new != old:
+        with open(path, "w", encoding="utf-8") as f:
+            f.write(new)
+    return new != old
+
+
 def main():
     own, fields = declared()
     taken = {}
     for name in sorted(n for n in own if OLD.search(n)):
         if taken.setdefault(turned(name), name) != name or turned(name) in own and turned(name) != name:
             print(f"together: {name} and {taken[turned(name)] if taken[turned(name)] != name else turned(name)} are {turned(name)}")
+    pages = ["README.md"] + sorted(os.path.join("docs", n) for n in os.listdir("docs") if n.endswith(".md"))
     changed = 0
-    for ends, how in ((".antt", turn_antt), (".rt", turn_rt), (".edit", turn_rt)):
-        for path in files(ends):
-            old = read(path)
-            new = how(old, own, fields)
-            if new != old:
-                changed += 1
-                with open(path, "w", encoding="utf-8") as f:
-                    f.write(new)
-    for path in ["README.md"] + sorted(os.path.join("docs", n) for n in os.listdir("docs") if n.endswith(".md")):
-        old = read(path)
-        new = in_backticks(old, own, fields)
-        if new != old:
-            changed += 1
-            with open(path, "w", encoding="utf-8") as f:
-                f.write(new)
+    for paths, how in ((files(".antt"), turn_antt), (files((".rt", ".edit")), turn_rt), (pages, in_backticks)):
+        changed += sum(rewritten(path, how, own, fields) for path in paths)
     print(f"respelled {len(taken)} names in {changed} files")
 
 
