@@ -1,5 +1,5 @@
 ghost use Rattle.std.specs.Prelude.{◌≡◌, ◌<◌, ◌≤◌, length};
-ghost use Rattle.table.specs.Of.{rows_at, standing_in};
+ghost use Rattle.table.specs.Of.{order_of, rows_at, standing_in};
 ghost use Rattle.cubes.specs.Expressions.{Rows};
 
 use crate::table::{FORMULAS, Table};
@@ -22,5 +22,12 @@ impl Table {
         } else {
             &[]
         }
+    }
+
+    // The numbers of the expressions that stand, in their making order.
+    pub fn order(&self) -> &[usize]
+        ensures { result.now ≡ order_of self.now }
+    {
+        &self.order[..self.standing()]
     }
 }
