@@ -1,4 +1,5 @@
-ghost use Rattle.std.specs.Prelude.{◌≡◌, ◌≤◌, [], ◌∷◌, ◌++◌, length, Ok, Err};
+ghost use Rattle.std.specs.Prelude.{◌≡◌, ◌<◌, ◌≤◌, ◌⊎◌, List, [], ◌∷◌, ◌++◌, length, take, Ok, Err};
+ghost use Rattle.std.specs.List.{insert};
 ghost use Rattle.few.specs.Listed.{listed};
 
 use crate::few::Few;
@@ -43,4 +44,26 @@ impl<T: Copy, const N: usize> Few<T, N> {
         self.len += 1;
         Ok(())
     }
+
+    // Puts an item at a place, before those from there on; gives it back where there are N, or there is no such place.
+    pub fn insert(&mut self, at: usize, item: T) -> Result<(), T>
+        ensures { elim result [ Ok _ ↦ (at ≤ length (listed self.old)) × (listed self.new ≡ insert (listed self.old) at item) | Err x ↦ (x ≡ item) × ((length (listed self.old) ≡ N) ⊎ (length (listed self.old) < at)) × (self.new ≡ self.old) ] }
+    {
+        if at > self.len {
+            return Err(item);
+        }
+        self.push(item)?;
+        last_to(&mut self.items, self.len, at);
+        Ok(())
+    }
+}
+
+// Moves the last of the first `len` items to a place, and those from there on up.
+fn last_to<T>(items: &mut [T], len: usize, at: usize)
+    requires { (at < len) × (len ≤ length items.old) }
+    ensures moved { (front : List T) (last : T) → take len items.old ≡ front ++ last ∷ [] → take len items.new ≡ insert front at last }
+    ensures long { length items.new ≡ length items.old }
+{
+    let first = &mut items[..len];
+    first[at..].rotate_right(1);
 }
