@@ -1,4 +1,4 @@
-pub mod Holds
+pub mod Tests
 mod Letters
 pub mod Made
 mod Rows

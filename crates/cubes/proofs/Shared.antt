@@ -11,7 +11,7 @@ use Rattle.cubes.specs.Powers.{power, Divided, Misses}
 use Rattle.cubes.specs.Rows.{no_row, as_row, as_rows, powers_at, divided_rows, Apart}
 use Rattle.cubes.specs.Shares.{Lacks, Shared, shared_row}
 use Rattle.cubes.specs.declared.row.Row.{Row}
-use Rattle.cubes.proofs.Holds.{test_yes, test_no}
+use Rattle.cubes.proofs.Tests.{test_yes, test_no}
 
 -- the powers that a shared row has
 shared_powers : ℕ → Powers → Powers → Powers

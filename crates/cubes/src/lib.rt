@@ -7,4 +7,4 @@ mod row;
 
 pub use cube::{Cube, LETTERS};
 pub use expression::{Expression, ROWS, Refused};
-pub use row::{Row, Sign, divided_rows};
+pub use row::{Row, Sign, all_minus, divided_rows, holds};

@@ -1,5 +1,6 @@
-ghost use Rattle.std.specs.Prelude.{◌≡◌, ◌*◌, ◌≤◌, true, false};
+ghost use Rattle.std.specs.Prelude.{◌≡◌, ◌*◌, ◌≤◌, true, false, Some, None};
 ghost use Rattle.algebra.specs.Cubes.{letters, Same, common};
+ghost use Rattle.algebra.specs.Rows.{Alike, divides_test, quotient_row};
 ghost use Rattle.algebra.specs.Counts.{row_multiplications, all_negative};
 ghost use Rattle.cubes.specs.Powers.{power};
 ghost use Rattle.cubes.specs.Rows.{Holds, divided_rows, as_row, as_rows};
@@ -27,6 +28,19 @@ impl Row {
         self.cube.common(other.cube)
     }
 
+    // this row divided by a cube, with its sign, if the cube divides it
+    pub fn divide(self, cube: Cube) -> Option<Row>
+        ensures { elim result [ Some x ↦ (divides_test (power cube) (power self.cube) ≡ true) × Alike (quotient_row (power cube) (as_row self)) (as_row x) | None ↦ divides_test (power cube) (power self.cube) ≡ false ] }
+    {
+        match self.cube.divide(cube) {
+            Some(rest) => Some(Row {
+                cube: rest,
+                sign: self.sign,
+            }),
+            None => None,
+        }
+    }
+
     // the multiplications that a product of so many letters takes
     pub fn multiplications(self) -> u32
         ensures is { result ≡ row_multiplications (as_row self) }
@@ -50,7 +64,7 @@ pub fn divided_rows(rows: &[Row], cube: Cube) -> usize
 }
 
 // whether one of the rows has this cube
-pub(crate) fn holds(rows: &[Row], cube: Cube) -> bool
+pub fn holds(rows: &[Row], cube: Cube) -> bool
     ensures yes { result ≡ true → Holds rows.now (power cube) }
     ensures no { result ≡ false → Holds rows.now (power cube) → ⊥ }
 {
@@ -63,7 +77,7 @@ pub(crate) fn holds(rows: &[Row], cube: Cube) -> bool
 }
 
 // whether every row is negative
-pub(crate) fn all_minus(rows: &[Row]) -> bool
+pub fn all_minus(rows: &[Row]) -> bool
     ensures { result ≡ all_negative (as_rows rows.now) }
 {
     for row in rows {

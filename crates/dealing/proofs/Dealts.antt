@@ -12,7 +12,7 @@ use Rattle.cubes.specs.declared.cube.Cube.{Cube}
 use Rattle.cubes.specs.declared.row.Row.{Row as Coded}
 use Rattle.cubes.specs.Powers.{Divided, Misses, power}
 use Rattle.cubes.specs.Rows.{as_row, as_rows}
-use Rattle.cubes.proofs.Holds.{test_no, test_yes}
+use Rattle.cubes.proofs.Tests.{test_no, test_yes}
 use Rattle.rewriting.specs.Styles.{Style}
 use Rattle.rewriting.specs.Taking.{Kernel, found, spot}
 use Rattle.dealing.specs.Cards.{Deals, Dealt, Named, column_of, columns_of}

@@ -4,7 +4,7 @@ use Rattle.std.proofs.lemmas.List.Sums.{count_by_more_yes, count_by_more_no}
 use Rattle.algebra.specs.Rows.{divides_test}
 use Rattle.cubes.specs.Powers.{power}
 use Rattle.cubes.specs.Rows.{no_row, powers_at, divided_rows}
-use Rattle.cubes.proofs.Holds.{test_yes, test_no}
+use Rattle.cubes.proofs.Tests.{test_yes, test_no}
 use Rattle.cubes.proofs.row.divided_rows.Goals as goal
 use Rattle.cubes.proofs.row.divided_rows.Goals.{then-divides, else-divides}
 

@@ -1,6 +1,6 @@
 use Rattle.std.proofs.Common.{sym, refl}
 use Rattle.cubes.specs.Powers.{power}
-use Rattle.cubes.proofs.Holds.{test_yes, test_no}
+use Rattle.cubes.proofs.Tests.{test_yes, test_no}
 use Rattle.factoring.proofs.columns.column_of.Goals as goal
 
 pub returns-in-Some : goal.returns-in-Some

@@ -1,6 +1,6 @@
 use Rattle.std.proofs.Common.{◌<◌, length, sym, refl, rules}
 use Rattle.cubes.specs.Powers.{power}
-use Rattle.cubes.proofs.Holds.{test_yes, test_no}
+use Rattle.cubes.proofs.Tests.{test_yes, test_no}
 use Rattle.cubes.proofs.Shared.{gained, stayed}
 use Rattle.cubes.proofs.expression.changes.divide.Goals as goal
 

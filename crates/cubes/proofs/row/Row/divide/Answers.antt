@@ -1,0 +1,14 @@
+use Rattle.std.proofs.Common.{sym, refl}
+use Rattle.cubes.specs.Powers.{power}
+use Rattle.cubes.proofs.Tests.{test_yes, test_no}
+use Rattle.cubes.proofs.row.Row.divide.Goals as goal
+
+pub returns-in-Some : goal.returns-in-Some
+returns-in-Some c =
+    let d = c.in-Some.ensures in (
+      test_yes (power c.args.cube) (power c.args.self.cube) d.divides,
+      record { sign = refl; cubes = λ l h. sym (d.is l h) },
+    )
+
+pub returns-in-None : goal.returns-in-None
+returns-in-None c = test_no (power c.args.cube) (power c.args.self.cube) c.in-None.ensures
