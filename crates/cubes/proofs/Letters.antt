@@ -1,6 +1,6 @@
 -- The powers of a letter alone.
 use Rattle.std.proofs.Common.{◌≡◌, ℕ, ◌<◌, cond, eqb, get_or, set, replicate, sym, refl, ◌∙◌, subst, inl, inr, get_or-set_other, get_or-set_same}
-use lib.ListN.{get_or-replicate}
+use Rattle.std.proofs.lemmas.List.{get_or-replicate}
 use Rattle.std.proofs.lemmas.Bool.{cases_eq, cond-true, cond-false, eq-eqb, ne_eqb}
 use Rattle.algebra.specs.Cubes.{letters, letter}
 

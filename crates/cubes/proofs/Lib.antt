@@ -1,6 +1,7 @@
-pub mod Tests
 mod Letters
 pub mod Made
+mod Orders
 mod Rows
 pub mod Shared
 pub mod Signs
+pub mod Tests

@@ -1,13 +1,12 @@
 -- A cube shared out of rows.
-use Rattle.std.proofs.Common.{◌≡◌, ℕ, suc, ◌+◌, ◌-◌, ◌<◌, ◌≤◌, Bool, true, false, cond, List, [], ◌∷◌, map, length, get_or, take, set, sym, refl, ap, ◌∙◌, subst, inl, inr, arith}
+use Rattle.std.proofs.Common.{◌≡◌, ℕ, suc, ◌+◌, ◌-◌, ◌<◌, ◌≤◌, true, false, cond, List, [], ◌∷◌, map, length, get_or, take, set, sym, ap, ◌∙◌, inl, inr, arith}
 use Rattle.std.specs.List.{AllZip}
-use Rattle.std.proofs.lemmas.List.{get_or-set_same, get_or-set_other, get_or-take, length-set, length-take}
-use Rattle.std.proofs.lemmas.Bool.{cases_Bool, cases_eq, cases_lt, cond-true, cond-false}
-use Rattle.std.proofs.lemmas.List.Sums.{count_by_more_yes, count_by_more_no}
+use Rattle.std.proofs.lemmas.List.{get_or-set_same, get_or-set_other, take_all}
+use Rattle.std.proofs.lemmas.Bool.{cases_Bool, cases_eq, cond-true, cond-false}
 use Rattle.algebra.specs.Cubes.{Powers, Same, letter, letters, product, quotient}
 use Rattle.algebra.specs.Rows.{Alike, divides_test}
 use Rattle.algebra.proofs.Degrees.{divides_decides, letter_other, letter_own}
-use Rattle.cubes.specs.Powers.{power, Divided, Misses}
+use Rattle.cubes.specs.Powers.{Divided, Misses}
 use Rattle.cubes.specs.Rows.{no_row, as_row, as_rows, powers_at, divided_rows, Apart}
 use Rattle.cubes.specs.Shares.{Lacks, Shared, shared_row}
 use Rattle.cubes.specs.declared.row.Row.{Row}
@@ -91,77 +90,26 @@ module _ (j : ℕ) (c : Powers) where
   each_row (x ∷ xs) [] many done = absurd (omega arith)
   each_row (x ∷ xs) (y ∷ ys) many done = (done 0 (omega arith), each_row xs ys (omega arith) (λ k h. done (suc k) (omega arith)))
 
--- the rows before the place i are shared, the others stay, and n rows were divided
+-- the rows before the place i are shared, and n of them were divided
 pub record SharedBefore (j : ℕ) (c : Powers) (xs ys : List Row) (i n : ℕ) : Type 0 where
   pub many : length ys ≡ length xs
   pub done : (k : ℕ) → k < i → Done j c xs ys k
-  pub left : (k : ℕ) → i ≤ k → get_or ys k no_row ≡ get_or xs k no_row
   pub count : n ≡ divided_rows c (take i xs)
   pub small : n ≤ i
 
-module _ (j : ℕ) (c : Powers) (xs : List Row) where
-  pub shared_none : SharedBefore j c xs xs 0 0
-  shared_none = record { many = refl; done = λ k h. absurd (omega arith); left = λ k h. refl; count = refl; small = omega arith }
-
-  -- the next row is as it was, without the letter
-  pub next_fresh : (ys : List Row) (i n m : ℕ) → SharedBefore j c xs ys i n → i < m → m ≤ length xs → Lacks j (take m xs) → powers_at ys i j ≡ 0
-  next_fresh ys i n m so_far lt le fresh =
-      ap (λ (z : Row). power z.cube j) (so_far.left i (omega arith) ∙ sym (get_or-take m xs i no_row lt)) ∙ fresh i (omega (arith, length-take m xs))
-
-  -- one row more
-  module _ (ys : List Row) (i n : ℕ) (lt : i < length xs) (so_far : SharedBefore j c xs ys i n) (y : Row) (row : Alike (as_row y) (shared_row j c (as_row (get_or ys i no_row)))) where
-    done_more : (k : ℕ) → k < i + 1 → Done j c xs (set ys i y) k
-    done_more k h =
-        elim (cases_lt k i) [
-          | inl ki ↦
-              let ne : k ≡ i → ⊥ = λ e. omega arith in
-              subst (λ (z : Row). Alike (as_row z) (shared_row j c (as_row (get_or xs k no_row)))) (sym (get_or-set_other ys i k y no_row ne)) (so_far.done k ki)
-          | inr ki ↦
-              let e : i ≡ k = omega arith in
-              let here : i < length ys = omega (arith, so_far.many) in
-              let old : get_or ys i no_row ≡ get_or xs i no_row = so_far.left i (omega arith) in
-              subst (λ (m : ℕ). Done j c xs (set ys i y) m) e
-              (subst (λ (z : Row). Alike (as_row z) (shared_row j c (as_row (get_or xs i no_row)))) (sym (get_or-set_same ys i y no_row here))
-              (subst (λ (z : Row). Alike (as_row y) (shared_row j c (as_row z))) old row))
-        ]
-
-    left_more : (k : ℕ) → i + 1 ≤ k → get_or (set ys i y) k no_row ≡ get_or xs k no_row
-    left_more k h = let ne : k ≡ i → ⊥ = λ e. omega arith in get_or-set_other ys i k y no_row ne ∙ so_far.left k (omega arith)
-
-    old_test : (b : Bool) → b ≡ divides_test c (powers_at ys i) → divides_test c (powers_at xs i) ≡ b
-    old_test b t = sym (t ∙ ap (λ (z : Row). divides_test c (power z.cube)) (so_far.left i (omega arith)))
-
-    pub shared_yes : true ≡ divides_test c (powers_at ys i) → (m : ℕ) → m ≡ n + 1 → SharedBefore j c xs (set ys i y) (i + 1) m
-    shared_yes t m is = record {
-      many = length-set ys i y ∙ so_far.many;
-      done = done_more;
-      left = left_more;
-      count = omega (arith, so_far.count, count_by_more_yes (λ (x : Row). divides_test c (power x.cube)) xs i no_row lt (old_test true t));
-      small = omega (arith, so_far.small);
-    }
-
-    pub shared_no : false ≡ divides_test c (powers_at ys i) → (m : ℕ) → m ≡ n → SharedBefore j c xs (set ys i y) (i + 1) m
-    shared_no t m is = record {
-      many = length-set ys i y ∙ so_far.many;
-      done = done_more;
-      left = left_more;
-      count = omega (arith, so_far.count, count_by_more_no (λ (x : Row). divides_test c (power x.cube)) xs i no_row lt (old_test false t));
-      small = omega (arith, so_far.small);
-    }
-
+module _ (j : ℕ) (c : Powers) (xs ys : List Row) where
   -- all rows
-  module _ (ys : List Row) (i n : ℕ) (le : i ≤ length xs) (all : SharedBefore j c xs ys i n) (known : j < letters) (fresh : Lacks j (take i xs)) where
-    same_many : length (take i ys) ≡ length (take i xs)
-    same_many = omega (arith, length-take i ys, length-take i xs, all.many)
+  module _ (i n : ℕ) (end : length xs ≤ i) (all : SharedBefore j c xs ys i n) (known : j < letters) (fresh : Lacks j xs) where
+    done_all : (k : ℕ) → k < length xs → Done j c xs ys k
+    done_all k h = all.done k (omega arith)
 
-    done_all : (k : ℕ) → k < length (take i xs) → Done j c (take i xs) (take i ys) k
-    done_all k h =
-        let ki : k < i = omega (arith, length-take i xs) in
-        subst (λ (z : Row). Alike (as_row z) (shared_row j c (as_row (get_or (take i xs) k no_row)))) (sym (get_or-take i ys k no_row ki))
-        (subst (λ (z : Row). Alike (as_row (get_or ys k no_row)) (shared_row j c (as_row z))) (sym (get_or-take i xs k no_row ki)) (all.done k ki))
+    pub still_apart : Apart xs → Apart ys
+    still_apart apart = apart_shared j c xs ys all.many done_all known fresh apart
 
-    pub still_apart : Apart (take i xs) → Apart (take i ys)
-    still_apart apart = apart_shared j c (take i xs) (take i ys) same_many done_all known fresh apart
-
-    pub shared_all : Shared j c (take i xs) (take i ys) n
-    shared_all = record { known = known; fresh = fresh; rows = each_row j c (take i xs) (take i ys) same_many done_all; count = all.count }
+    pub shared_all : Shared j c xs ys n
+    shared_all = record {
+      known = known;
+      fresh = fresh;
+      rows = each_row j c xs ys all.many done_all;
+      count = all.count ∙ ap (divided_rows c) (take_all i xs end);
+    }

@@ -6,10 +6,11 @@ use Rattle.cubes.specs.declared.expression.Expression.{Expression}
 use Rattle.cubes.specs.declared.expression.Refused.{Refused}
 use Rattle.cubes.specs.declared.expression.Refused.TheVariants.{Full, Double}
 use Rattle.cubes.specs.declared.row.Row.{Row}
+use Rattle.few.specs.Listed.{listed}
 
 -- the rows of an expression
 abbrev pub rows_of : Expression → List Row
-rows_of e = take e.len e.rows
+rows_of e = listed e.rows
 
 -- xs are the rows of e, which keeps them few and apart
 pub record Rows (e : Expression) (xs : List Row) : Type 0 where

@@ -2,15 +2,16 @@ ghost use Rattle.std.specs.Prelude.{◌≡◌, ◌+◌, ◌*◌, ◌<◌, ◌≤
 ghost use Rattle.std.specs.declared.cmp.Ordering.TheVariants.{Less, Equal, Greater};
 ghost use Rattle.algebra.specs.Cubes.{letters, Same, Divides, unit, letter, product, quotient, common, Before};
 ghost use Rattle.cubes.specs.Powers.{power, Misses, Bytes, Passes, Divided};
-ghost use Rattle.algebra.specs.Rows.{degree};
+ghost use Rattle.algebra.specs.Rows.{degree, divides_test};
 
+use std::array;
 use std::cmp::Ordering;
 
 // How many letters there are. The definitions have the same number as `letters`.
 pub const LETTERS: usize = 32;
 
 // A product of letters: the power of each, from letter 0.
-#[derive(Clone, Copy)]
+#[derive(Clone, Copy, PartialEq, Eq, PartialOrd, Ord, Debug, Default)]
 pub struct Cube {
     pub powers: [u8; LETTERS],
 }
@@ -41,13 +42,9 @@ impl Cube {
     pub fn divides(self, other: Cube) -> bool
         ensures yes { result ≡ true → Divides (power self) (power other) }
         ensures no { result ≡ false → Misses (power self) (power other) }
+        ensures test { result ≡ divides_test (power self) (power other) }
     {
-        for l in 0..LETTERS {
-            if other.powers[l] < self.powers[l] {
-                return false;
-            }
-        }
-        true
+        self.powers.iter().zip(&other.powers).all(|(p, q)| p <= q)
     }
 
     // whether both have the same powers
@@ -55,12 +52,7 @@ impl Cube {
         ensures yes { result ≡ true → Same (power self) (power other) }
         ensures no { result ≡ false → Same (power self) (power other) → ⊥ }
     {
-        for l in 0..LETTERS {
-            if self.powers[l] != other.powers[l] {
-                return false;
-            }
-        }
-        true
+        self == other
     }
 
     // this cube divided by one that divides it
@@ -69,9 +61,9 @@ impl Cube {
         ensures is { Same (power result) (quotient (power self) (power other)) }
         ensures bytes { Bytes (power self) }
     {
-        let mut powers = [0; LETTERS];
-        for l in 0..LETTERS {
-            powers[l] = self.powers[l] - other.powers[l];
+        let mut powers = self.powers;
+        for (l, p) in powers.iter_mut().enumerate() {
+            *p -= other.powers[l];
         }
         Cube { powers }
     }
@@ -91,9 +83,9 @@ impl Cube {
     pub fn multiply(self, other: Cube) -> Option<Cube>
         ensures { elim result [ Some x ↦ Same (power x) (product (power self) (power other)) × Bytes (product (power self) (power other)) | None ↦ Passes (product (power self) (power other)) ] }
     {
-        let mut powers = [0; LETTERS];
-        for l in 0..LETTERS {
-            powers[l] = self.powers[l].checked_add(other.powers[l])?;
+        let mut powers = self.powers;
+        for (l, p) in powers.iter_mut().enumerate() {
+            *p = p.checked_add(other.powers[l])?;
         }
         Some(Cube { powers })
     }
@@ -102,11 +94,9 @@ impl Cube {
     pub fn common(self, other: Cube) -> Cube
         ensures { Same (power result) (common (power self) (power other)) }
     {
-        let mut powers = [0; LETTERS];
-        for l in 0..LETTERS {
-            powers[l] = self.powers[l].min(other.powers[l]);
+        Cube {
+            powers: array::from_fn(|l| self.powers[l].min(other.powers[l])),
         }
-        Cube { powers }
     }
 
     // the sum of the powers
@@ -114,25 +104,13 @@ impl Cube {
         ensures is { result ≡ degree (power self) }
         ensures small { result ≤ 255 * letters }
     {
-        let mut n = 0;
-        for l in 0..LETTERS {
-            n += u32::from(self.powers[l]);
-        }
-        n
+        self.powers.iter().map(|p| u32::from(*p)).sum()
     }
 
     // which comes first: compared from letter 0, smaller power first
     pub fn compare(self, other: Cube) -> Ordering
         ensures { elim result [ Less ↦ Before (power self) (power other) | Equal ↦ Same (power self) (power other) | Greater ↦ Before (power other) (power self) ] }
     {
-        for i in 0..LETTERS {
-            if self.powers[i] < other.powers[i] {
-                return Ordering::Less;
-            }
-            if self.powers[i] > other.powers[i] {
-                return Ordering::Greater;
-            }
-        }
-        Ordering::Equal
+        self.cmp(&other)
     }
 }

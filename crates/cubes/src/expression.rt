@@ -1,7 +1,8 @@
-ghost use Rattle.std.specs.Prelude.{◌≡◌, ◌≤◌, length, take};
-ghost use Rattle.cubes.specs.Rows.{most_rows, Apart};
+ghost use Rattle.cubes.specs.Rows.{Apart};
+ghost use Rattle.few.specs.Listed.{listed};
 
 use crate::Row;
+use few::Few;
 
 mod calls;
 mod changes;
@@ -21,9 +22,6 @@ pub enum Refused {
 // A sum of rows: a few of them, no two with the same cube, signs aside.
 #[derive(Clone, Copy)]
 pub struct Expression {
-    rows: [Row; ROWS],
-    len: usize,
-    ghost places: { length rows ≡ most_rows },
-    ghost few: { len ≤ most_rows },
-    ghost apart: { Apart (take len rows) },
+    rows: Few<Row, ROWS>,
+    ghost apart: { Apart (listed rows) },
 }

@@ -3,18 +3,27 @@ ghost use Rattle.algebra.specs.Cubes.{letters, Same, common};
 ghost use Rattle.algebra.specs.Rows.{Alike, divides_test, quotient_row};
 ghost use Rattle.algebra.specs.Counts.{row_multiplications, all_negative};
 ghost use Rattle.cubes.specs.Powers.{power};
-ghost use Rattle.cubes.specs.Rows.{Holds, divided_rows, as_row, as_rows};
+ghost use Rattle.cubes.specs.Rows.{Holds, divided_rows, as_row, as_rows, minus};
 
 use crate::Cube;
 
-#[derive(Clone, Copy, PartialEq, Eq, Debug)]
+#[derive(Clone, Copy, PartialEq, Eq, Debug, Default)]
 pub enum Sign {
+    #[default]
     Plus,
     Minus,
 }
 
+impl Sign {
+    pub fn is_minus(self) -> bool
+        ensures { result ≡ minus self }
+    {
+        self == Sign::Minus
+    }
+}
+
 // A cube with a sign.
-#[derive(Clone, Copy)]
+#[derive(Clone, Copy, PartialEq, Eq, Debug, Default)]
 pub struct Row {
     pub cube: Cube,
     pub sign: Sign,
@@ -29,16 +38,14 @@ impl Row {
     }
 
     // this row divided by a cube, with its sign, if the cube divides it
+    #[tactic(auto, using(crate::proofs::Tests::test_yes, crate::proofs::Tests::test_no))]
     pub fn divide(self, cube: Cube) -> Option<Row>
         ensures { elim result [ Some x ↦ (divides_test (power cube) (power self.cube) ≡ true) × Alike (quotient_row (power cube) (as_row self)) (as_row x) | None ↦ divides_test (power cube) (power self.cube) ≡ false ] }
     {
-        match self.cube.divide(cube) {
-            Some(rest) => Some(Row {
-                cube: rest,
-                sign: self.sign,
-            }),
-            None => None,
-        }
+        self.cube.divide(cube).map(|rest| Row {
+            cube: rest,
+            sign: self.sign,
+        })
     }
 
     // the multiplications that a product of so many letters takes
@@ -54,13 +61,7 @@ impl Row {
 pub fn divided_rows(rows: &[Row], cube: Cube) -> usize
     ensures { result ≡ divided_rows (power cube) rows.now }
 {
-    let mut n = 0;
-    for row in rows {
-        if cube.divides(row.cube) {
-            n += 1;
-        }
-    }
-    n
+    rows.iter().filter(|row| cube.divides(row.cube)).count()
 }
 
 // whether one of the rows has this cube
@@ -68,22 +69,12 @@ pub fn holds(rows: &[Row], cube: Cube) -> bool
     ensures yes { result ≡ true → Holds rows.now (power cube) }
     ensures no { result ≡ false → Holds rows.now (power cube) → ⊥ }
 {
-    for row in rows {
-        if row.cube.same(cube) {
-            return true;
-        }
-    }
-    false
+    rows.iter().any(|row| row.cube.same(cube))
 }
 
 // whether every row is negative
 pub fn all_minus(rows: &[Row]) -> bool
     ensures { result ≡ all_negative (as_rows rows.now) }
 {
-    for row in rows {
-        if let Sign::Plus = row.sign {
-            return false;
-        }
-    }
-    true
+    rows.iter().all(|row| row.sign.is_minus())
 }

@@ -30,10 +30,12 @@ impl Expression {
         }
         let mut rows = self.rows;
         let mut n = 0;
-        for k in 0..self.len {
-            if divide(&mut rows[k], cube, letter) {
+        for (k, row) in self.rows().iter().enumerate() {
+            let mut row = *row;
+            if divide(&mut row, cube, letter) {
                 n += 1;
             }
+            rows.set(k, row).unwrap();
         }
         self.rows = rows;
         Some(n)
@@ -46,16 +48,11 @@ fn lacks(rows: &[Row], letter: usize) -> bool
     ensures yes { result ≡ true → Lacks letter rows.now }
     ensures no { result ≡ false → Lacks letter rows.now → ⊥ }
 {
-    for row in rows {
-        let powers = row.cube.powers;
-        if powers[letter] > 0 {
-            return false;
-        }
-    }
-    true
+    rows.iter().all(|row| row.cube.powers[letter] == 0)
 }
 
 // Divides a row without the letter once by the cube, if that divides it, and multiplies it by the letter; answers whether it did.
+// The row is lent and changed in place, as the project asks, so the answer is only whether it was.
 fn divide(row: &mut Row, cube: Cube, letter: usize) -> bool
     requires known { letter < letters }
     requires fresh { power row.old.cube letter ≡ 0 }

@@ -1,4 +1,4 @@
-ghost use Rattle.std.specs.Prelude.{◌≡◌, ◌<◌, ◌≤◌, ◌⊎◌, List, [], ◌∷◌, ◌++◌, length, take, Ok, Err};
+ghost use Rattle.std.specs.Prelude.{◌≡◌, ◌<◌, ◌≤◌, ◌⊎◌, List, [], ◌∷◌, ◌++◌, length, take, Ok, Err, slice_set};
 ghost use Rattle.std.specs.List.{insert};
 ghost use Rattle.few.specs.Listed.{listed};
 
@@ -42,6 +42,17 @@ impl<T: Copy, const N: usize> Few<T, N> {
         }
         self.items[self.len] = item;
         self.len += 1;
+        Ok(())
+    }
+
+    // Puts an item in the place of another; gives it back where there is none.
+    pub fn set(&mut self, place: usize, item: T) -> Result<(), T>
+        ensures { elim result [ Ok _ ↦ (place < length (listed self.old)) × (listed self.new ≡ slice_set (listed self.old) place item) | Err x ↦ (x ≡ item) × (length (listed self.old) ≤ place) × (self.new ≡ self.old) ] }
+    {
+        if place >= self.len {
+            return Err(item);
+        }
+        self.items[place] = item;
         Ok(())
     }
 

@@ -1,15 +1,22 @@
-use Rattle.std.proofs.Common.{◌≡◌, ℕ, ◌+◌, sym, ap, ◌∙◌, add-one, arith}
-use Rattle.algebra.specs.Sums.{counting, up_to}
-use Rattle.algebra.proofs.Sums.{up_to_none, up_to_more}
-use Rattle.cubes.specs.Powers.{power}
+use Rattle.std.proofs.Common.{rules, ◌≡◌, ◌≤◌, length, sum, ◌∙◌, arith}
+use Rattle.std.specs.List.{All}
+use Rattle.std.proofs.iter.runs.Sources.{sums}
+use Rattle.std.proofs.lemmas.List.Sums.{sum_by-le}
+use Rattle.algebra.specs.Cubes.{letters}
+use Rattle.cubes.proofs.Orders.{degree_is}
 use Rattle.cubes.proofs.cube.Cube.degree.Goals as goal
 
-pub loop-l-init : goal.loop-l-init
-loop-l-init c = (sym (up_to_none counting (power c.args.self)), omega arith)
+pub sum-requires-clause-fits : goal.sum-requires-clause-fits
+sum-requires-clause-fits c = search (rules, sums)
 
-pub loop-l-preserved : goal.loop-l-preserved
-loop-l-preserved c =
-    let f = power c.args.self in
-    let n = c.loop-l.l in
-    let more : up_to counting (n + 1) f ≡ up_to counting n f + f n = ap (λ (m : ℕ). up_to counting m f) (add-one n) ∙ up_to_more counting n f in
-    (omega arith, omega arith)
+pub returns-clause-is : goal.returns-clause-is
+returns-clause-is c =
+    let e : c.sum.result ≡ sum c.args.self.powers = search (rules, sums) in
+    e ∙ degree_is c.args.self.powers (search rules)
+
+pub returns-clause-small : goal.returns-clause-small
+returns-clause-small c =
+    let e : c.sum.result ≡ sum c.args.self.powers = search (rules, sums) in
+    let few : length c.args.self.powers ≡ letters = search rules in
+    let bytes : All (λ x. x ≤ 255) c.args.self.powers = search rules in
+    omega (arith, e, few, sum_by-le (λ x. x) 255 c.args.self.powers bytes)

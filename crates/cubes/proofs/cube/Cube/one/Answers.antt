@@ -1,4 +1,4 @@
-use lib.ListN.{get_or-replicate}
+use Rattle.std.proofs.lemmas.List.{get_or-replicate}
 use Rattle.algebra.specs.Cubes.{letters}
 use Rattle.cubes.proofs.cube.Cube.one.Goals as goal
 
