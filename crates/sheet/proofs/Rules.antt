@@ -1,6 +1,6 @@
 -- A sheet keeps the rules, as its type has them.
-use Rattle.std.proofs.Common.{◌≡◌, ℕ, ◌<◌, ◌≤◌, List, length, get_or, take, sym, ap, ◌∙◌, subst, subst₂, arith}
-use Rattle.std.proofs.lemmas.List.{length-take-le, get_or-take, get_or_default}
+use Rattle.std.proofs.Common.{◌≡◌, ℕ, ◌<◌, ◌≤◌, List, length, get_or, take, sym, ap, ◌∙◌, subst, arith}
+use Rattle.std.proofs.lemmas.List.{length-take, length-take-le, get_or-take, get_or_default}
 use Rattle.sheet.specs.declared.operand.Operand.{Operand}
 use Rattle.sheet.specs.declared.refusal.Refusal.{Refusal}
 use Rattle.sheet.specs.declared.refusal.Refusal.TheVariants.{Layout, ShortBuffer, SmallNumeral, IllegalStep, IllegalOutput}
@@ -12,17 +12,11 @@ use Rattle.sheet.specs.Making.{Broken}
 use Rattle.sheet.specs.Numerals.{numerals_list}
 use Rattle.sheet.specs.Parts.{sheet_numerals, sheet_steps, sheet_room, sheet_outputs, Lawful}
 
-pub length_numerals : (ns : Numerals) → length (numerals_list ns) ≡ ns.count
-length_numerals ns = length-take-le ns.count ns.values (let a = ns.few in let b = ns.eight in omega arith)
+pub few_numerals : (ns : Numerals) → length (numerals_list ns) ≤ 8
+few_numerals ns = let a = ns.values.within in let b = ns.values.places in simp length-take (omega arith)
 
 pub numerals_large : (ns : Numerals) (k d : ℕ) → k < length (numerals_list ns) → 2 ≤ get_or (numerals_list ns) k d
-numerals_large ns k d h =
-    let held = length_numerals ns in
-    let a = ns.few in
-    let b = ns.eight in
-    let l : k < ns.count = omega arith in
-    let w : k < length ns.values = omega arith in
-    subst (λ (n : ℕ). 2 ≤ n) (sym (get_or-take ns.count ns.values k d l ∙ get_or_default ns.values k d 0 w)) (ns.large k l)
+numerals_large ns k d h = subst (λ (n : ℕ). 2 ≤ n) (get_or_default (numerals_list ns) k 0 d h) (ns.large k h)
 
 pub length_steps : (s : Sheet) → length (sheet_steps s) ≡ s.used
 length_steps s = length-take-le s.used (sheet_room s) (let a = s.room in let b = s.buffer.ok.0 in omega arith)
@@ -31,20 +25,24 @@ length_steps s = length-take-le s.used (sheet_room s) (let a = s.room in let b =
 pub legal_take : (held n : ℕ) (xs : List Step) → LegalSteps held n xs → LegalSteps held n (take n xs)
 legal_take held n xs legal k d h = ap (legal_step held k) (get_or-take n xs k d h) ∙ legal k d h
 
+-- and what is legal in the list of those is legal among the first n
+pub legal_front : (held n : ℕ) (xs : List Step) → n ≤ length xs → LegalSteps held (length (take n xs)) (take n xs) → LegalSteps held n xs
+legal_front held n xs few legal k d h =
+    let long = length-take-le n xs few in
+    ap (legal_step held k) (sym (get_or-take n xs k d h)) ∙ legal k d (omega arith)
+
 pub sheet_lawful : (s : Sheet) → Lawful (sheet_numerals s) (sheet_steps s) (sheet_outputs s)
 sheet_lawful s =
-    let ns = s.numerals in
-    let held : ns.count ≡ length (sheet_numerals s) = sym (length_numerals ns) in
     let used : s.used ≡ length (sheet_steps s) = sym (length_steps s) in
-    let few : ns.count ≤ 8 = ns.few in
     let few_steps : s.used ≤ 2000 = s.few in
+    let held = length (sheet_numerals s) in
     record {
-      few_numerals = omega arith;
-      large = λ k h. numerals_large ns k 0 h;
+      few_numerals = few_numerals s.numerals;
+      large = s.numerals.large;
       few_steps = omega arith;
-      legal = subst₂ (λ (h n : ℕ). LegalSteps h n (sheet_steps s)) held used (legal_take ns.count s.used (sheet_room s) s.legal);
+      legal = subst (λ (n : ℕ). LegalSteps held n (sheet_steps s)) used (legal_take held s.used (sheet_room s) s.legal);
       sixteen = s.sixteen;
-      exist = subst₂ (λ (h n : ℕ). LegalOperands h n 16 (sheet_outputs s)) held used s.exist;
+      exist = subst (λ (n : ℕ). LegalOperands held n 16 (sheet_outputs s)) used s.exist;
     }
 
 -- no rule is broken where all are kept

@@ -22,3 +22,10 @@ Broken ShortBuffer held room buffer used outputs = (used ≤ 2000) × (room < us
 Broken SmallNumeral held room buffer used outputs = ⊥
 Broken IllegalStep held room buffer used outputs = (used ≤ 2000) × (used ≤ room) × (LegalSteps held used buffer → ⊥)
 Broken IllegalOutput held room buffer used outputs = (used ≤ 2000) × (used ≤ room) × LegalSteps held used buffer × (LegalOperands held used 16 outputs → ⊥)
+
+-- all rules are kept
+pub record Kept (held room : ℕ) (buffer : List Step) (used : ℕ) (outputs : List Operand) : Type 0 where
+  pub few : used ≤ 2000
+  pub fits : used ≤ room
+  pub legal : LegalSteps held used buffer
+  pub exist : LegalOperands held used 16 outputs

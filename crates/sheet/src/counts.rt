@@ -5,7 +5,7 @@ use crate::operation::Operation;
 use crate::step::Step;
 
 // How many steps multiply, how many add or subtract, and how many negate.
-#[derive(Clone, Copy, PartialEq, Eq, Debug)]
+#[derive(Clone, Copy, PartialEq, Eq, Debug, Default)]
 pub struct Counts {
     pub multiplications: usize,
     pub additions: usize,
@@ -16,11 +16,7 @@ impl Counts {
     pub fn of(steps: &[Step]) -> Counts
         ensures { Counted steps.now result }
     {
-        let mut counts = Counts {
-            multiplications: 0,
-            additions: 0,
-            negations: 0,
-        };
+        let mut counts = Counts::default();
         for step in steps {
             counts = counts.with(step.operation);
         }

@@ -3,30 +3,24 @@ ghost use Rattle.sheet.specs.Numbers.{refusal_number};
 
 use crate::step::Step;
 
-// Why numerals, steps and outputs do not make a sheet.
+// Why numerals, steps and outputs do not make a sheet; the discriminants are the numbers of the refusals.
 #[derive(Clone, Copy, PartialEq, Eq, Debug)]
 pub enum Refusal {
     // more than eight numerals or 2,000 steps, or a file with a wrong header
-    Layout,
+    Layout = 18,
     // a step buffer shorter than the steps
-    ShortBuffer,
+    ShortBuffer = 19,
     // a numeral below 2
-    SmallNumeral,
-    IllegalStep,
-    IllegalOutput,
+    SmallNumeral = 20,
+    IllegalStep = 21,
+    IllegalOutput = 22,
 }
 
-impl Refusal {
-    pub fn number(self) -> u8
-        ensures { result ≡ refusal_number self }
-    {
-        match self {
-            Refusal::Layout => 18,
-            Refusal::ShortBuffer => 19,
-            Refusal::SmallNumeral => 20,
-            Refusal::IllegalStep => 21,
-            Refusal::IllegalOutput => 22,
-        }
+impl From<Refusal> for u8 {
+    ghost from_gives = { λ why n. n ≡ refusal_number why };
+
+    fn from(why: Refusal) -> u8 {
+        why as u8
     }
 }
 

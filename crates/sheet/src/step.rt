@@ -3,9 +3,10 @@ ghost use Rattle.sheet.specs.Legal.{legal_step};
 
 use crate::operand::Operand;
 use crate::operation::Operation;
+use crate::scope::Scope;
 
 // One operation on two operands.
-#[derive(Clone, Copy, PartialEq, Eq, Debug)]
+#[derive(Clone, Copy, PartialEq, Eq, Debug, Default)]
 pub struct Step {
     pub operation: Operation,
     pub left: Operand,
@@ -13,11 +14,11 @@ pub struct Step {
 }
 
 impl Step {
-    // Whether the step may stand at the place `at` of a sheet with `held` numerals.
-    pub fn is_legal(self, held: u8, at: u16) -> bool
-        ensures { result ≡ legal_step held at self }
+    // Whether the step may stand in a scope.
+    pub fn is_legal(self, scope: Scope) -> bool
+        ensures { result ≡ legal_step scope.held scope.before self }
     {
-        if !self.left.is_legal(held, at) || !self.right.is_legal(held, at) {
+        if !self.left.is_legal(scope) || !self.right.is_legal(scope) {
             return false;
         }
         match self.operation {

@@ -1,5 +1,5 @@
 -- One write after another.
-use Rattle.std.proofs.Common.{◌≡◌, ℕ, ◌+◌, ◌-◌, ◌<◌, ◌≤◌, List, [], ◌++◌, length, get_or, take, drop, sym, refl, ap, ◌∙◌, subst, append_assoc, arith}
+use Rattle.std.proofs.Common.{◌≡◌, ℕ, zero, suc, ◌+◌, ◌-◌, ◌<◌, ◌≤◌, List, [], ◌∷◌, ◌++◌, length, get_or, take, drop, sym, refl, ap, ◌∙◌, subst, append_assoc, arith}
 use borrow.Rule.Slice.PartMut.{put_mid}
 use Rattle.std.specs.List.{flat_map}
 use Rattle.std.proofs.lemmas.List.{length-append, drop-drop, take_more, take_all, flat_map_more}
@@ -42,3 +42,13 @@ puts_same {out} {last} {at} {e} xs ys same p = subst (λ (bs : List ℕ). Puts o
 -- all items of a row
 pub puts_all : {X : Type 0} (f : X → List ℕ) (items : List X) (n : ℕ) {out last : List ℕ} {at e : ℕ} → length items ≤ n → Puts out at (flat_map f (take n items)) e last → Puts out at (flat_map f items) e last
 puts_all f items n all p = puts_same _ _ (ap (flat_map f) (take_all n items all)) p
+
+-- what stands before an item and its own bytes are no longer than the row
+pub row_part : {X : Type 0} (f : X → List ℕ) (items : List X) (n : ℕ) (d : X) → n < length items → length (flat_map f (take n items)) + length (f (get_or items n d)) ≤ length (flat_map f items)
+row_part f [] n d h = absurd (omega arith)
+row_part f (x ∷ xs) zero d h = let whole = length-append (f x) (flat_map f xs) in omega arith
+row_part f (x ∷ xs) (suc n) d h =
+    let front = length-append (f x) (flat_map f (take n xs)) in
+    let whole = length-append (f x) (flat_map f xs) in
+    let rest = row_part f xs n d (omega arith) in
+    omega arith

@@ -1,10 +1,11 @@
 #![tactic(auto)]
 
-mod codes;
 mod copying;
 mod entries;
+mod fault;
 mod layout;
 mod reading;
+mod section;
 mod sections;
 mod writing;
 

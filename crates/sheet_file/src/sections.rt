@@ -2,82 +2,89 @@ ghost use Rattle.std.specs.Prelude.{◌≡◌, ℕ, ◌+◌, ◌*◌, ◌%◌, �
 ghost use Rattle.std.specs.List.{flat_map};
 ghost use Rattle.sheet.specs.Legal.{LegalSteps, LegalOperands};
 ghost use Rattle.sheet.specs.Numerals.{numerals_list};
+ghost use Rattle.sheet.specs.declared.refusal.Refusal.TheVariants.{SmallNumeral, IllegalStep, IllegalOutput};
 ghost use Rattle.sheet_file.specs.Bytes.{word_bytes, step_bytes, output_bytes};
-ghost use Rattle.sheet_file.specs.Reading.{NumeralEntry, StepEntry, OutputEntry, AllGood, FirstBad, Filled};
+ghost use Rattle.sheet_file.specs.Reading.{NumeralEntry, StepEntry, OutputEntry, AllGood, Filled};
+ghost use Rattle.sheet_file.specs.Checking.{FaultIn};
 
-use crate::codes::word;
-use crate::entries::{output_entry, step_entry};
-use sheet::{Numerals, Operand, Step};
+use crate::fault::Fault;
+use crate::layout::Layout;
+use crate::section::Section;
+use sheet::{Numerals, Operand, Refusal, Step};
 
-// The numerals of a section, or the place of the first below 2.
-pub(crate) fn read_numerals(section: &[u8]) -> Result<Numerals, usize>
-    requires few { length section.now ≤ 16 }
-    requires whole { length section.now % 2 ≡ 0 }
-    ensures { elim result [ Ok ns ↦ flat_map word_bytes (numerals_list ns) ≡ section.now | Err at ↦ FirstBad 2 NumeralEntry section.now at ] }
+// The numerals of a section, or the first below 2.
+pub(crate) fn read_numerals(section: Section) -> Result<Numerals, Fault>
+    requires few { length section.bytes.now ≤ 16 }
+    requires whole { length section.bytes.now % 2 ≡ 0 }
+    ensures { elim result [ Ok ns ↦ flat_map word_bytes (numerals_list ns) ≡ section.entry.bytes.now | Err f ↦ FaultIn SmallNumeral 2 NumeralEntry section.entry.start section.entry.bytes.now f ] }
 {
     let mut numerals = Numerals::none();
-    let mut left = section;
+    let mut left = section.bytes;
     while let [low, high, rest @ ..] = left {
-        if let Err(_) = numerals.push(word(*low, *high)) {
-            return Err(section.len() - left.len());
+        if let Err(_) = numerals.push(u16::from_le_bytes([*low, *high])) {
+            return Err(Fault {
+                why: Refusal::SmallNumeral,
+                place: section.start + (section.bytes.len() - left.len()),
+            });
         }
         left = rest;
     }
     Ok(numerals)
 }
 
-// The place of the first step of a section that is not legal.
-pub(crate) fn first_bad_step(section: &[u8], held: u8) -> Option<usize>
-    requires held { held ≤ 8 }
-    requires few { length section.now ≤ 10000 }
-    requires whole { length section.now % 5 ≡ 0 }
-    ensures { MatchOption result (AllGood 5 (StepEntry held) section.now) (λ at. FirstBad 5 (StepEntry held) section.now at) }
+// Whether the steps of a section are legal; if not, the first that is not.
+pub(crate) fn check_steps(section: Section, layout: Layout) -> Result<(), Fault>
+    requires { length section.bytes.now ≡ 5 * layout.used }
+    ensures { elim result [ Ok _ ↦ AllGood 5 (StepEntry layout.held) section.entry.bytes.now | Err f ↦ FaultIn IllegalStep 5 (StepEntry layout.held) section.entry.start section.entry.bytes.now f ] }
 {
-    let mut n: u16 = 0;
-    let mut left = section;
+    let mut n = 0;
+    let mut left = section.bytes;
     while let [code, ll, lh, rl, rh, rest @ ..] = left {
-        let Some(_) = step_entry(*code, *ll, *lh, *rl, *rh, held, n) else {
-            return Some(section.len() - left.len());
+        let Some(_) = layout.step(*code, [*ll, *lh], [*rl, *rh], n) else {
+            return Err(Fault {
+                why: Refusal::IllegalStep,
+                place: section.start + 5 * n,
+            });
         };
         n += 1;
         left = rest;
     }
-    None
+    Ok(())
 }
 
 // Puts the steps of a section, all of which are legal, at the front of the buffer.
-pub(crate) fn fill_steps(section: &[u8], held: u8, buffer: &mut [Step])
-    requires held { held ≤ 8 }
-    requires few { length section.now ≤ 10000 }
-    requires whole { length section.now % 5 ≡ 0 }
-    requires room { length section.now ≤ 5 * length buffer.old }
-    requires good { AllGood 5 (StepEntry held) section.now }
-    ensures { Filled held section.now buffer.old buffer.new }
+pub(crate) fn fill_steps(section: Section, layout: Layout, buffer: &mut [Step])
+    requires whole { length section.bytes.now ≡ 5 * layout.used }
+    requires room { layout.used ≤ length buffer.old }
+    requires good { AllGood 5 (StepEntry layout.held) section.bytes.now }
+    ensures { Filled layout.held section.entry.bytes.now buffer.old buffer.new }
 {
-    let mut n: u16 = 0;
-    let mut left = section;
+    let mut n = 0;
+    let mut left = section.bytes;
     while let [code, ll, lh, rl, rh, rest @ ..] = left {
-        let Some(step) = step_entry(*code, *ll, *lh, *rl, *rh, held, n) else {
+        let Some(step) = layout.step(*code, [*ll, *lh], [*rl, *rh], n) else {
             return;
         };
-        buffer[n as usize] = step;
+        buffer[n] = step;
         n += 1;
         left = rest;
     }
 }
 
-// The outputs of a section, or the place of the first that does not exist.
-pub(crate) fn read_outputs(section: &[u8], held: u8, used: u16) -> Result<[Operand; 16], usize>
-    requires whole { length section.now ≡ 32 }
-    requires held { held ≤ 8 }
-    ensures { elim result [ Ok os ↦ (length os ≡ 16) × (flat_map output_bytes os ≡ section.now) × LegalOperands held used 16 os | Err at ↦ FirstBad 2 (OutputEntry held used) section.now at ] }
+// The outputs of a section, or the first that does not exist.
+pub(crate) fn read_outputs(section: Section, layout: Layout) -> Result<[Operand; 16], Fault>
+    requires { length section.bytes.now ≡ 32 }
+    ensures { elim result [ Ok os ↦ (length os ≡ 16) × (flat_map output_bytes os ≡ section.entry.bytes.now) × LegalOperands layout.held layout.used 16 os | Err f ↦ FaultIn IllegalOutput 2 (OutputEntry layout.held layout.used) section.entry.start section.entry.bytes.now f ] }
 {
-    let mut outputs = [Operand::Zero; 16];
-    let mut left = section;
+    let mut outputs = [Operand::default(); 16];
+    let mut left = section.bytes;
     let mut k = 0;
     while let [low, high, rest @ ..] = left {
-        let Some(operand) = output_entry(*low, *high, held, used) else {
-            return Err(section.len() - left.len());
+        let Some(operand) = layout.output([*low, *high]) else {
+            return Err(Fault {
+                why: Refusal::IllegalOutput,
+                place: section.start + 2 * k,
+            });
         };
         outputs[k] = operand;
         k += 1;

@@ -1,37 +1,49 @@
 ghost use Rattle.std.specs.Prelude.{◌≡◌, ℕ, ◌<◌, ◌≤◌, true, length, Ok, Err, vec_len, Decides};
 ghost use Rattle.sheet.specs.Legal.{LegalSteps, LegalOperands};
 ghost use Rattle.sheet.specs.Numerals.{numerals_list};
-ghost use Rattle.sheet.specs.Making.{Made, Broken};
+ghost use Rattle.sheet.specs.Making.{Made, Broken, Kept};
 
 use crate::numerals::Numerals;
 use crate::operand::Operand;
 use crate::refusal::{Refusal, Refused};
+use crate::scope::Scope;
 use crate::sheet::Sheet;
 use crate::step::Step;
 
-// Whether each of the first `used` steps is legal at its place.
-fn steps_legal(steps: &[Step], used: u16, held: u8) -> bool
-    requires { used ≤ length steps.now }
-    ensures { Decides result (LegalSteps held used steps.now) }
+// Whether each step is legal at its place.
+fn steps_legal(steps: &[Step], held: u8) -> bool
+    ensures { Decides result (LegalSteps held (length steps.now) steps.now) }
 {
-    for n in 0..used {
-        if !steps[n as usize].is_legal(held, n) {
-            return false;
-        }
-    }
-    true
+    steps
+        .iter()
+        .enumerate()
+        .all(|(before, step)| step.is_legal(Scope { held, before }))
 }
 
-// Whether each output exists behind the steps.
-fn outputs_legal(outputs: &[Operand; 16], held: u8, used: u16) -> bool
-    ensures { Decides result (LegalOperands held used 16 outputs.now) }
+// Whether each output exists in the scope behind the steps.
+fn outputs_legal(outputs: &[Operand; 16], scope: Scope) -> bool
+    ensures { Decides result (LegalOperands scope.held scope.before 16 outputs.now) }
 {
-    for output in outputs {
-        if !output.is_legal(held, used) {
-            return false;
-        }
+    outputs.iter().all(|output| output.is_legal(scope))
+}
+
+// Whether the parts keep the rules; if not, the first rule that they break.
+fn check(held: u8, buffer: &[Step], used: usize, outputs: &[Operand; 16]) -> Result<(), Refusal>
+    ensures { elim result [ Ok _ ↦ Kept held (length buffer.now) buffer.now used outputs.now | Err why ↦ Broken why held (length buffer.now) buffer.now used outputs.now ] }
+{
+    if used > 2000 {
+        return Err(Refusal::Layout);
     }
-    true
+    if buffer.len() < used {
+        return Err(Refusal::ShortBuffer);
+    }
+    if !steps_legal(&buffer[..used], held) {
+        return Err(Refusal::IllegalStep);
+    }
+    if !outputs_legal(outputs, Scope { held, before: used }) {
+        return Err(Refusal::IllegalOutput);
+    }
+    Ok(())
 }
 
 impl Sheet {
@@ -44,37 +56,14 @@ impl Sheet {
     ) -> Result<Sheet, Refused>
         ensures { elim result [ Ok s ↦ Made (numerals_list numerals) buffer.items used outputs s | Err e ↦ (e.buffer ≡ buffer) × Broken e.why (length (numerals_list numerals)) (vec_len buffer) buffer.items used outputs ] }
     {
-        if used > 2000 {
-            return Err(Refused {
-                why: Refusal::Layout,
+        match check(numerals.count(), &buffer, used, &outputs) {
+            Ok(()) => Ok(Sheet {
+                numerals,
                 buffer,
-            });
+                used: used as u16,
+                outputs,
+            }),
+            Err(why) => Err(Refused { why, buffer }),
         }
-        if buffer.len() < used {
-            return Err(Refused {
-                why: Refusal::ShortBuffer,
-                buffer,
-            });
-        }
-        let used = used as u16;
-        let held = numerals.count();
-        if !steps_legal(&buffer, used, held) {
-            return Err(Refused {
-                why: Refusal::IllegalStep,
-                buffer,
-            });
-        }
-        if !outputs_legal(&outputs, held, used) {
-            return Err(Refused {
-                why: Refusal::IllegalOutput,
-                buffer,
-            });
-        }
-        Ok(Sheet {
-            numerals,
-            buffer,
-            used,
-            outputs,
-        })
     }
 }

@@ -45,12 +45,7 @@ impl Sheet {
     pub fn into_buffer(self) -> Vec<Step>
         ensures { result.items ≡ sheet_room self }
     {
-        let Sheet {
-            numerals: _,
-            buffer,
-            used: _,
-            outputs: _,
-        } = self;
+        let Sheet { buffer, .. } = self;
         buffer
     }
 }

@@ -1,44 +1,40 @@
-use Rattle.std.proofs.Common.{ℕ, List, refl, ◌∙◌, subst}
-use Rattle.sheet_file.specs.Reading.{FirstBad, StepEntry, OutputEntry, AllGood}
+use Rattle.std.proofs.Common.{ℕ, ◌+◌, List, sym, ap, ◌∙◌, subst, rules}
+use Rattle.sheet.specs.declared.refusal.Refusal.{Refusal}
+use Rattle.sheet_file.specs.Reading.{StepEntry, OutputEntry, AllGood, FirstBad, RefusedAt}
 use Rattle.sheet_file.proofs.Known.{numerals_good}
 use Rattle.sheet_file.proofs.reading.check.Goals as goal
 
-pub returns-in-Some : goal.returns-in-Some
-returns-in-Some c =
-    let held = c.in-Ok.layout.held in (
-      held,
-      c.in-Ok.layout.used,
-      c.in-Some.at,
-      record { layout = c.in-Ok.ensures; fits = c.if-room-used.false },
-      refl,
-      numerals_good c.in-Ok-read_numerals.numerals _ (c.in-Ok-read_numerals.ensures ∙ c.section.ensures.value),
-      subst (λ (xs : List ℕ). FirstBad 5 (StepEntry held) xs c.in-Some.at) c.section-2.ensures.value c.in-Some.ensures,
-    )
+pub returns-in_err-check_steps : goal.returns-in_err-check_steps
+returns-in_err-check_steps c =
+    let numerals = numerals_good c.in_ok-numerals.numerals _ (c.in_ok-numerals.ensures ∙ c.numerals.ensures.bytes) in
+    search rules
 
-pub returns-in-Ok-read_outputs : goal.returns-in-Ok-read_outputs
-returns-in-Ok-read_outputs c =
-    let held = c.in-Ok.layout.held in
-    let read = c.in-Ok-read_outputs.ensures in
+pub returns-in_err-outputs : goal.returns-in_err-outputs
+returns-in_err-outputs c =
+    let fault = c.in_err-outputs.field-0.0 in
+    let bad = c.in_err-outputs.ensures in
+    let held = c.in_ok-layout.layout.held in
+    let used = c.in_ok-layout.layout.used in
+    let refused : RefusedAt fault.why fault.place c.args.file.now c.args.room = subst (λ (why : Refusal). RefusedAt why fault.place c.args.file.now c.args.room) (sym bad.reason) (
+      held,
+      used,
+      bad.at,
+      record { layout = c.in_ok-layout.ensures; fits = c.if-room-layout.false },
+      bad.place ∙ ap (λ (n : ℕ). n + bad.at) c.outputs.ensures.start,
+      numerals_good c.in_ok-numerals.numerals _ (c.in_ok-numerals.ensures ∙ c.numerals.ensures.bytes),
+      subst (λ (xs : List ℕ). AllGood 5 (StepEntry held) xs) c.steps.ensures.bytes c.in_ok-check_steps.ensures,
+      subst (λ (xs : List ℕ). FirstBad 2 (OutputEntry held used) xs bad.at) c.outputs.ensures.bytes bad.first,
+    ) in
+    search rules
+
+pub returns : goal.returns
+returns c =
+    let read = c.in_ok-outputs.ensures in
     record {
-      opened = record { layout = c.in-Ok.ensures; fits = c.if-room-used.false };
-      numerals = c.in-Ok-read_numerals.ensures ∙ c.section.ensures.value;
-      steps = subst (λ (xs : List ℕ). AllGood 5 (StepEntry held) xs) c.section-2.ensures.value c.in_default.ensures;
-      outputs = read.1 ∙ c.section-3.ensures.value;
+      opened = record { layout = c.in_ok-layout.ensures; fits = c.if-room-layout.false };
+      numerals = c.in_ok-numerals.ensures ∙ c.numerals.ensures.bytes;
+      steps = subst (λ (xs : List ℕ). AllGood 5 (StepEntry c.in_ok-layout.layout.held) xs) c.steps.ensures.bytes c.in_ok-check_steps.ensures;
+      outputs = read.1 ∙ c.outputs.ensures.bytes;
       sixteen = read.0;
       exist = read.2;
     }
-
-pub returns-in-Err-read_outputs : goal.returns-in-Err-read_outputs
-returns-in-Err-read_outputs c =
-    let held = c.in-Ok.layout.held in
-    let used = c.in-Ok.layout.used in
-    let at = c.in-Err-read_outputs.at in (
-      held,
-      used,
-      at,
-      record { layout = c.in-Ok.ensures; fits = c.if-room-used.false },
-      refl,
-      numerals_good c.in-Ok-read_numerals.numerals _ (c.in-Ok-read_numerals.ensures ∙ c.section.ensures.value),
-      subst (λ (xs : List ℕ). AllGood 5 (StepEntry held) xs) c.section-2.ensures.value c.in_default.ensures,
-      subst (λ (xs : List ℕ). FirstBad 2 (OutputEntry held used) xs at) c.section-3.ensures.value c.in-Err-read_outputs.ensures,
-    )

@@ -20,24 +20,9 @@ returns-in-Err c =
       known = λ s same fits. known_not_refused s c.args.file.now c.in-Err.fault.why c.in-Err.fault.place _ same fits why;
     }
 
-pub fill_steps-requires : goal.fill_steps-requires
-fill_steps-requires c =
-    let passed = c.in-Ok.ensures in
-    let layout = passed.opened.layout in
-    let held = c.in-Ok.checked.layout.held in
-    let used = c.in-Ok.checked.layout.used in
-    let few_steps = layout.steps.0 in
-    let long : length c.section.result.now ≡ 5 * used = c.section.ensures.long in
-    let fits = passed.opened.fits in
-    let len = c.len.ensures in
-    let room = c.deref_mut.ensures.len in
-    record {
-      held = layout.numerals.0;
-      few = omega arith;
-      whole = omega arith;
-      room = omega arith;
-      good = subst (λ (xs : List ℕ). AllGood 5 (StepEntry held) xs) (sym c.section.ensures.value) passed.steps;
-    }
+pub fill_steps-requires-clause-good : goal.fill_steps-requires-clause-good
+fill_steps-requires-clause-good c =
+    subst (λ (xs : List ℕ). AllGood 5 (StepEntry c.in-Ok.checked.layout.held) xs) (sym c.steps.ensures.bytes) c.in-Ok.ensures.steps
 
 pub returns-in-Ok-make : goal.returns-in-Ok-make
 returns-in-Ok-make c =
@@ -52,7 +37,7 @@ returns-in-Ok-make c =
     let kept : length last ≡ c.args.buffer.len = search rules in
     let items = with_items_is c.args.buffer last kept in
     let made = c.in-Ok-make.ensures in
-    let long : length c.section.result.now ≡ 5 * used = c.section.ensures.long in
+    let long : length c.steps.result.bytes.now ≡ 5 * used = c.steps.ensures.long in
     let whole = filled.whole in
     let count : filled.count ≡ used = omega arith in
     let fits = passed.opened.fits in
@@ -65,7 +50,7 @@ returns-in-Ok-make c =
     let bytes = whole_file file held used (sheet_numerals s) (sheet_steps s) (sheet_outputs s) small layout
     (ap length numerals ∙ held_is file held used (numerals_list c.in-Ok.checked.numerals) layout passed.numerals) many
     (ap (flat_map word_bytes) numerals ∙ passed.numerals)
-    (ap (flat_map step_bytes) steps ∙ ap (λ (n : ℕ). flat_map step_bytes (take n last)) (sym count) ∙ filled.bytes ∙ c.section.ensures.value)
+    (ap (flat_map step_bytes) steps ∙ ap (λ (n : ℕ). flat_map step_bytes (take n last)) (sym count) ∙ filled.bytes ∙ c.steps.ensures.bytes)
     (ap (flat_map output_bytes) made.outputs_kept ∙ passed.outputs) in
     record {
       answer = (bytes, made.behind_kept ∙ ap (drop used) items ∙ subst (λ (n : ℕ). drop n last ≡ drop n c.deref_mut.result.now) count filled.behind ∙ (λ i. drop (sym many i) (c.deref_mut.ensures.value i)));
@@ -83,7 +68,7 @@ returns-in-Err-make c =
     let filled = c.fill_steps.ensures in
     let kept : length last ≡ c.args.buffer.len = search rules in
     let items = with_items_is c.args.buffer last kept in
-    let long : length c.section.result.now ≡ 5 * used = c.section.ensures.long in
+    let long : length c.steps.result.bytes.now ≡ 5 * used = c.steps.ensures.long in
     let whole = filled.whole in
     let count : filled.count ≡ used = omega arith in
     let same_held = held_is file held used (numerals_list c.in-Ok.checked.numerals) layout passed.numerals in

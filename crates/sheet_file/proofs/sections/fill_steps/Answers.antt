@@ -7,19 +7,19 @@ use Rattle.sheet_file.specs.Reading.{StepEntry, entry}
 use Rattle.sheet_file.proofs.Rows.{five_first, entry_here, row_more_set, row_all, below_set, behind_more}
 use Rattle.sheet_file.proofs.sections.fill_steps.Goals as goal
 
-pub returns-in_default-step_entry : goal.returns-in_default-step_entry
-returns-in_default-step_entry c =
+pub returns-in_default-step : goal.returns-in_default-step
+returns-in_default-step c =
     let left = c.loop-left.left.now in
     let n = c.loop-left.n in
     let buffer = c.loop-left.buffer in
-    let section = c.args.section.now in
+    let section = c.args.section.bytes.now in
     let long : 5 ≤ length left = search rules in
     let within : n ≤ length buffer = search rules in
     let many : length (take n buffer) ≡ n = length-take-le n buffer within in
     let here = entry_here step_bytes 5 (λ s. refl) (take n buffer) left section c.loop-left.invariant.1 in
     let first : take 5 left ≡ get_or left 0 0 ∷ get_or left 1 0 ∷ get_or left 2 0 ∷ get_or left 3 0 ∷ get_or left 4 0 ∷ [] = ap (take 5) (five_first left long) in
     let good = c.requires.good n (omega (arith, c.loop-left.invariant.0)) in
-    absurd (c.in_default-step_entry.ensures (subst (StepEntry c.args.held n) (ap (entry 5 section) (sym many) ∙ here ∙ first) good))
+    absurd (c.in_default-step.ensures (subst (StepEntry c.args.layout.held n) (ap (entry 5 section) (sym many) ∙ here ∙ first) good))
 
 pub loop-left-preserved : goal.loop-left-preserved
 loop-left-preserved c =
@@ -27,9 +27,9 @@ loop-left-preserved c =
     let n = c.loop-left.n in
     let s = c.in-Some.step in
     let buffer = c.loop-left.buffer in
-    let section = c.args.section.now in
+    let section = c.args.section.bytes.now in
     let start = c.args.buffer.now in
-    let held = c.args.held in
+    let held = c.args.layout.held in
     let long : 5 ≤ length left = search rules in
     let within : n < length buffer = search rules in
     let e = c.in-Some.ensures in
@@ -49,7 +49,7 @@ returns c =
     record {
       count = c.loop-left.n;
       whole = omega arith;
-      bytes = row_all step_bytes (take c.loop-left.n c.loop-left.buffer) left c.args.section.now c.loop-left.invariant.1 none;
+      bytes = row_all step_bytes (take c.loop-left.n c.loop-left.buffer) left c.args.section.bytes.now c.loop-left.invariant.1 none;
       legal = c.loop-left.invariant.2;
       behind = c.loop-left.invariant.3;
     }

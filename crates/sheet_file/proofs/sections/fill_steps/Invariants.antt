@@ -6,9 +6,9 @@ use Rattle.sheet_file.proofs.sections.fill_steps.Given as goal
 
 abbrev pub invariant-loop-left : goal.invariant-loop-left
 invariant-loop-left l =
-    (5 * l.n + length l.left ≡ length l.section)
-    × (flat_map step_bytes (take l.n l.buffer) ++ l.left ≡ l.section)
-    × LegalSteps l.held l.n l.buffer
+    (5 * l.n + length l.left ≡ length l.section.bytes.now)
+    × (flat_map step_bytes (take l.n l.buffer) ++ l.left ≡ l.section.bytes.now)
+    × LegalSteps l.layout.held l.n l.buffer
     × (drop l.n l.buffer ≡ drop l.n l.initial.buffer)
 
 abbrev pub decreases-loop-left : goal.decreases-loop-left
