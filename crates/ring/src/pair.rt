@@ -1,14 +1,25 @@
-ghost use Rattle.std.specs.Prelude.{◌≡◌};
+ghost use Rattle.std.specs.Prelude.{◌≡◌, Some, [], ◌∷◌};
+ghost use Rattle.std.specs.Fmt.{◌++?◌};
 ghost use Rattle.ring.specs.Pairs.{pairs};
 ghost use Rattle.ring.specs.Kinds.{pair_meaning};
 
 use crate::Ring;
+use std::fmt;
 
 // A dual number over a kind: a value, and the rate at which it changes.
 #[derive(Clone, Copy, PartialEq, Eq, Debug)]
 pub struct Pair<R> {
     pub value: R,
     pub rate: R,
+}
+
+// The value and the rate, with a space between them.
+impl<R: fmt::Display> fmt::Display for Pair<R> {
+    ghost output = { λ p. R.output p.value ++? Some (32 ∷ []) ++? R.output p.rate };
+
+    fn fmt<W: fmt::Write>(&self, f: &mut fmt::Formatter<W>) -> fmt::Result {
+        write!(f, "{} {}", self.value, self.rate)
+    }
 }
 
 impl<R: Ring> Pair<R> {

@@ -1,8 +1,9 @@
-ghost use Rattle.std.specs.Prelude.{◌≡◌, ◌+◌, ◌-◌, ◌*◌, ◌%◌, ◌^◌};
+ghost use Rattle.std.specs.Prelude.{◌≡◌, Some, decimal, ◌+◌, ◌-◌, ◌*◌, ◌%◌, ◌^◌};
 ghost use Rattle.ring.specs.Residue.{Residue};
 ghost use Rattle.ring.specs.Kinds.{word_ring, word_meaning};
 
 use crate::Ring;
+use std::fmt;
 
 // A whole number modulo 2^32.
 #[derive(Clone, Copy, PartialEq, Eq, Debug)]
@@ -10,20 +11,32 @@ pub struct Word {
     pub value: u32,
 }
 
-impl Word {
-    pub fn new(value: u32) -> Word
-        ensures { result.value ≡ value }
-    {
+impl From<u32> for Word {
+    ghost from_gives = { λ n w. w.value ≡ n };
+
+    fn from(value: u32) -> Word {
         Word { value }
     }
+}
 
-    // the number below 2^32 that a word stands for, which is what it means
-    pub fn number(self) -> u32
-        ensures { result ≡ (word_meaning self).0 }
-    {
-        self.value
+// The number below 2^32 that a word stands for, which is what it means.
+impl From<Word> for u32 {
+    ghost from_gives = { λ w n. n ≡ (word_meaning w).0 };
+
+    fn from(word: Word) -> u32 {
+        word.value
     }
+}
 
+impl fmt::Display for Word {
+    ghost output = { λ w. Some (decimal w.value) };
+
+    fn fmt<W: fmt::Write>(&self, f: &mut fmt::Formatter<W>) -> fmt::Result {
+        write!(f, "{}", self.value)
+    }
+}
+
+impl Word {
     // The steps on the numbers themselves; the calls of the kind say what they mean.
 
     fn sum(self, other: Word) -> Word

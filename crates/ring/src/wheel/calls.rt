@@ -1,26 +1,36 @@
-ghost use Rattle.std.specs.Prelude.{◌≡◌, ◌+◌, ◌-◌, ◌*◌, ◌%◌, ◌<◌};
+ghost use Rattle.std.specs.Prelude.{◌≡◌, Some, decimal, ◌+◌, ◌-◌, ◌*◌, ◌%◌, ◌<◌};
 ghost use Rattle.ring.specs.Residue.{Residue};
 ghost use Rattle.ring.specs.Kinds.{wheel_ring, wheel_meaning};
 
 use crate::Ring;
 use crate::wheel::Wheel;
+use std::fmt;
+
+// The number below 97 that a wheel stands for, which is what it means.
+impl From<Wheel> for u8 {
+    ghost from_gives = { λ w n. (n < 97) × (n ≡ (wheel_meaning w).0) };
+
+    fn from(wheel: Wheel) -> u8 {
+        wheel.value
+    }
+}
+
+impl fmt::Display for Wheel {
+    ghost output = { λ w. Some (decimal w.value) };
+
+    fn fmt<W: fmt::Write>(&self, f: &mut fmt::Formatter<W>) -> fmt::Result {
+        write!(f, "{}", self.value)
+    }
+}
 
 impl Wheel {
-    // the wheel of any number: what it leaves modulo 97
+    // The wheel of any number: what it leaves modulo 97. Many numbers give one wheel, so this is no `From`.
     pub fn of(n: u32) -> Wheel
         ensures { result.value ≡ n % 97 }
     {
         Wheel {
             value: (n % 97) as u8,
         }
-    }
-
-    // the number below 97 that a wheel stands for, which is what it means
-    pub fn number(self) -> u8
-        ensures below { result < 97 }
-        ensures meant { result ≡ (wheel_meaning self).0 }
-    {
-        self.value
     }
 
     // The steps on the numbers themselves; the calls of the kind say what they mean.
