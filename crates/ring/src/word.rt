@@ -5,7 +5,8 @@ ghost use Rattle.ring.specs.Kinds.{word_ring, word_meaning};
 use crate::Ring;
 use std::fmt;
 
-// A whole number modulo 2^32.
+// A whole number modulo 2^32. `Word` and `Wheel` stay two types: a word wraps in the machine's 32
+// bits, where one type with the modulus as a parameter would divide, in 64.
 #[derive(Clone, Copy, PartialEq, Eq, Debug)]
 pub struct Word {
     pub value: u32,
@@ -36,34 +37,6 @@ impl fmt::Display for Word {
     }
 }
 
-impl Word {
-    // The steps on the numbers themselves; the calls of the kind say what they mean.
-
-    fn sum(self, other: Word) -> Word
-        ensures { result.value ≡ (self.value + other.value) % 2 ^ 32 }
-    {
-        Word {
-            value: self.value.wrapping_add(other.value),
-        }
-    }
-
-    fn product(self, other: Word) -> Word
-        ensures { result.value ≡ (self.value * other.value) % 2 ^ 32 }
-    {
-        Word {
-            value: self.value.wrapping_mul(other.value),
-        }
-    }
-
-    fn negative(self) -> Word
-        ensures { result.value ≡ (2 ^ 32 - self.value) % 2 ^ 32 }
-    {
-        Word {
-            value: self.value.wrapping_neg(),
-        }
-    }
-}
-
 impl Ring for Word {
     ghost Meaning = { Residue (2 ^ 32) };
 
@@ -86,14 +59,20 @@ impl Ring for Word {
     }
 
     fn add(self, other: Word) -> Word {
-        self.sum(other)
+        Word {
+            value: self.value.wrapping_add(other.value),
+        }
     }
 
     fn multiply(self, other: Word) -> Word {
-        self.product(other)
+        Word {
+            value: self.value.wrapping_mul(other.value),
+        }
     }
 
     fn opposite(self) -> Word {
-        self.negative()
+        Word {
+            value: self.value.wrapping_neg(),
+        }
     }
 }

@@ -14,6 +14,7 @@ pub(crate) fn write_cell<R: Copy>(cells: &mut [R], i: usize, value: R)
     cells[i] = value;
 }
 
+// No `get_mut`: what it leaves behind the loan was not proved.
 fn put_cell<R: Copy>(cells: &mut [R], i: usize, value: R) -> bool
     ensures told { result ≡ nat_lt i (length cells.old) }
     ensures after { cells.new ≡ slice_set cells.old i value }
@@ -28,18 +29,14 @@ fn put_cell<R: Copy>(cells: &mut [R], i: usize, value: R) -> bool
 fn read_cell<R: Copy>(cells: &[R], i: usize) -> Option<R>
     ensures { MatchOption result (length cells.now ≤ i) (λ x. (i < length cells.now) × (x ≡ slice_index_or cells.now i x)) }
 {
-    if i < cells.len() {
-        Some(cells[i])
-    } else {
-        None
-    }
+    cells.get(i).copied()
 }
 
 // The value in a cell, or another where there is no such cell.
 pub(crate) fn cell_or<R: Copy>(cells: &[R], i: usize, other: R) -> R
     ensures { result ≡ slice_index_or cells.now i other }
 {
-    if i < cells.len() { cells[i] } else { other }
+    cells.get(i).copied().unwrap_or(other)
 }
 
 impl<'a, R: Copy> Bench<'a, R> {

@@ -1,25 +1,21 @@
 ghost use Rattle.std.specs.Prelude.{◌≡◌};
 ghost use Rattle.runner.specs.Numbers.{run_refusal_number};
 
-// Why a sheet is not run.
+// Why a sheet is not run, by its number.
 #[derive(Clone, Copy, PartialEq, Eq, Debug)]
 pub enum RunRefusal {
     // other than eight measures
-    Measures,
+    Measures = 14,
     // a bench shorter than the sheet
-    ShortBench,
+    ShortBench = 15,
     // other than sixteen output places
-    OutputPlaces,
+    OutputPlaces = 16,
 }
 
-impl RunRefusal {
-    pub fn number(self) -> u8
-        ensures { result ≡ run_refusal_number self }
-    {
-        match self {
-            RunRefusal::Measures => 14,
-            RunRefusal::ShortBench => 15,
-            RunRefusal::OutputPlaces => 16,
-        }
+impl From<RunRefusal> for u8 {
+    ghost from_gives = { λ why n. n ≡ run_refusal_number why };
+
+    fn from(why: RunRefusal) -> u8 {
+        why as u8
     }
 }

@@ -6,19 +6,19 @@ ghost use Rattle.runner.specs.Runs.{Ran, run_answer};
 
 use crate::bench::{Bench, write_cell};
 use crate::refusal::RunRefusal;
-use crate::values::{operand_value, step_value};
+use crate::values::Setting;
 use ring::Ring;
 use sheet::{Operand, Sheet, Step};
 
 // Each step's value, in the cell of its number.
-fn run_steps<R: Ring>(steps: &[Step], numerals: &[u16], measures: &[R], bench: &mut Bench<R>)
-    requires legal { LegalSteps (length numerals.now) (length steps.now) steps.now }
+fn run_steps<R: Ring>(steps: &[Step], setting: &Setting<R>, bench: &mut Bench<R>)
+    requires legal { LegalSteps (length setting.now.numerals.now) (length steps.now) steps.now }
     requires room { length steps.now ≤ length bench.old.cells.now }
-    ensures steps { StepValues R.ring numerals.now (map R.meaning measures.now) steps.now (length steps.now) (map R.meaning bench.new.cells.now) }
+    ensures steps { StepValues R.ring setting.now.numerals.now (map R.meaning setting.now.measures.now) steps.now (length steps.now) (map R.meaning bench.new.cells.now) }
     ensures behind { drop (length steps.now) bench.new.cells.now ≡ drop (length steps.now) bench.old.cells.now }
 {
     for (n, step) in steps.iter().enumerate() {
-        let value = step_value(numerals, measures, bench, *step);
+        let value = setting.step_value(bench, *step);
         bench.write(n, value);
     }
 }
@@ -26,16 +26,15 @@ fn run_steps<R: Ring>(steps: &[Step], numerals: &[u16], measures: &[R], bench: &
 // Each output's value, in its place.
 fn run_outputs<R: Ring>(
     operands: &[Operand],
-    numerals: &[u16],
-    measures: &[R],
+    setting: &Setting<R>,
     bench: &Bench<R>,
     outputs: &mut [R],
 )
     requires { length operands.now ≤ length outputs.old }
-    ensures { OutputValues R.ring numerals.now (map R.meaning measures.now) (map R.meaning bench.now.cells.now) operands.now (length operands.now) (map R.meaning outputs.new) }
+    ensures { OutputValues R.ring setting.now.numerals.now (map R.meaning setting.now.measures.now) (map R.meaning bench.now.cells.now) operands.now (length operands.now) (map R.meaning outputs.new) }
 {
     for (k, operand) in operands.iter().enumerate() {
-        let value = operand_value(numerals, measures, bench, *operand);
+        let value = setting.operand_value(bench, *operand);
         write_cell(outputs, k, value);
     }
 }
@@ -60,8 +59,11 @@ pub fn run<R: Ring>(
     if outputs.len() != 16 {
         return Err(RunRefusal::OutputPlaces);
     }
-    let numerals = sheet.numerals();
-    run_steps(steps, numerals, measures, bench);
-    run_outputs(sheet.outputs(), numerals, measures, bench, outputs);
+    let setting = Setting {
+        numerals: sheet.numerals(),
+        measures,
+    };
+    run_steps(steps, &setting, bench);
+    run_outputs(sheet.outputs(), &setting, bench, outputs);
     Ok(())
 }

@@ -1,19 +1,19 @@
 // How the values of the ring kinds are written on the command line, and how they are printed.
 #![tactic(auto)]
 
-ghost use Rattle.std.specs.Prelude.{◌≡◌, ℕ, ◌^◌, List, ◌++◌, string_bytes, decimal, MatchOption, MatchResult};
+ghost use Rattle.std.specs.Prelude.{◌≡◌, ℕ, ◌^◌, List, decimal, MatchOption, Some, refl};
 ghost use Rattle.spelling.specs.Texts.{Signed, Paired, spaced};
 ghost use Rattle.spelling.specs.Spellings.{signed_one, paired_one};
 ghost use Rattle.spelling.specs.WheelSpelledLemmas.{same_wheel};
 
-use numbers::{append, signed};
+use numbers::signed;
 use ring::{Pair, Ring, Wheel, Word};
-use std::alloc::AllocError;
+use std::fmt::Display;
 
 mod numbers;
 
 // A ring kind whose values can be read and printed.
-pub trait Spelled: Ring {
+pub trait Spelled: Ring + Display {
     // the text is a spelling of the value
     ghost spells: { List ℕ → Self → Type 0 };
 
@@ -23,11 +23,11 @@ pub trait Spelled: Ring {
     fn read(text: &str) -> Option<Self>
         ensures { MatchOption result ((x : Self) → spells text.now x → ⊥) (λ x. spells text.now x) };
 
-    fn print(self, out: &mut String) -> Result<(), AllocError>
-        ensures { MatchResult result (λ _. string_bytes out.new ≡ string_bytes out.old ++ shows self) (λ _. string_bytes out.new ≡ string_bytes out.old) };
-
     // a text spells one value at most
     ghost unique: { (text : List ℕ) (x y : Self) → spells text x → spells text y → x ≡ y };
+
+    // a value is printed as those bytes
+    ghost shown: { (x : Self) → Self.output x ≡ Some (shows x) };
 }
 
 impl Spelled for Word {
@@ -37,13 +37,11 @@ impl Spelled for Word {
 
     ghost unique = { λ text x y p q i. record { value = signed_one p q i } };
 
+    ghost shown = { λ _. refl };
+
     fn read(text: &str) -> Option<Word> {
         let x = signed(text, 0x1_0000_0000)?;
         Some(Word { value: x as u32 })
-    }
-
-    fn print(self, out: &mut String) -> Result<(), AllocError> {
-        append(out, self.value)
     }
 }
 
@@ -54,13 +52,11 @@ impl Spelled for Wheel {
 
     ghost unique = { λ text x y p q. same_wheel x y (signed_one p q) };
 
+    ghost shown = { λ _. refl };
+
     fn read(text: &str) -> Option<Wheel> {
         let x = signed(text, 97)?;
         Some(Wheel::of(x as u32))
-    }
-
-    fn print(self, out: &mut String) -> Result<(), AllocError> {
-        append(out, u32::from(self.number()))
     }
 }
 
@@ -80,15 +76,10 @@ impl Spelled for Pair<Word> {
 
     ghost unique = { λ text x y p q i. record { value = record { value = (paired_one p q).0 i }; rate = record { value = (paired_one p q).1 i } } };
 
+    ghost shown = { λ _. refl };
+
     fn read(text: &str) -> Option<Pair<Word>> {
         let (left, right) = text.split_once(':')?;
         pair_of(left, right)
-    }
-
-    fn print(self, out: &mut String) -> Result<(), AllocError> {
-        let value = self.value.value;
-        let rate = self.rate.value;
-        let text = format!(in *out.allocator(); "{value} {rate}")?;
-        out.push_str(text.as_str())
     }
 }

@@ -1,8 +1,6 @@
-// Numbers as they are written on the command line, and as they are printed.
-ghost use Rattle.std.specs.Prelude.{◌≡◌, ℕ, ◌+◌, ◌^◌, ◌<◌, ◌⊎◌, ◌++◌, string_bytes, decimal as written, MatchOption, MatchResult, ◌==◌, slice_index};
+// Numbers as they are written on the command line.
+ghost use Rattle.std.specs.Prelude.{◌≡◌, ℕ, ◌+◌, ◌^◌, ◌<◌, ◌⊎◌, MatchOption, ◌==◌, slice_index};
 ghost use Rattle.spelling.specs.Texts.{Decimal, Signed};
-
-use std::alloc::AllocError;
 
 // Whether a plus stands first, which `from_str_radix` would pass over.
 fn has_plus(text: &str) -> bool
@@ -25,8 +23,7 @@ fn number(text: &str) -> Option<u64>
 fn decimal(text: &str, limit: u64) -> Option<u64>
     ensures { MatchOption result ((n : ℕ) → Decimal text.now n → n < limit → ⊥) (λ n. Decimal text.now n × (n < limit)) }
 {
-    let n = number(text)?;
-    if n < limit { Some(n) } else { None }
+    number(text).filter(|n| *n < limit)
 }
 
 // What adds up with the number to nought, modulo the modulus.
@@ -46,12 +43,4 @@ pub fn signed(text: &str, modulus: u64) -> Option<u64>
         Some(digits) => Some(opposite(decimal(digits, modulus)?, modulus)),
         None => decimal(text, modulus),
     }
-}
-
-// Adds the number in decimal to the text, or leaves the text as it was.
-pub fn append(out: &mut String, n: u32) -> Result<(), AllocError>
-    ensures { MatchResult result (λ _. string_bytes out.new ≡ string_bytes out.old ++ written n) (λ _. string_bytes out.new ≡ string_bytes out.old) }
-{
-    let digits = format!(in *out.allocator(); "{n}")?;
-    out.push_str(digits.as_str())
 }

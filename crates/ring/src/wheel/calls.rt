@@ -24,36 +24,12 @@ impl fmt::Display for Wheel {
 }
 
 impl Wheel {
-    // The wheel of any number: what it leaves modulo 97. Many numbers give one wheel, so this is no `From`.
+    // The wheel of any number: what it leaves modulo 97. It loses what 97 divides, so it is no `From`.
     pub fn of(n: u32) -> Wheel
         ensures { result.value ≡ n % 97 }
     {
         Wheel {
             value: (n % 97) as u8,
-        }
-    }
-
-    // The steps on the numbers themselves; the calls of the kind say what they mean.
-
-    fn sum(self, other: Wheel) -> Wheel
-        ensures { result.value ≡ (self.value + other.value) % 97 }
-    {
-        Wheel {
-            value: (self.value + other.value) % 97,
-        }
-    }
-
-    fn product(self, other: Wheel) -> Wheel
-        ensures { result.value ≡ (self.value * other.value) % 97 }
-    {
-        Wheel::of(u32::from(self.value) * u32::from(other.value))
-    }
-
-    fn negative(self) -> Wheel
-        ensures { result.value ≡ (97 - self.value) % 97 }
-    {
-        Wheel {
-            value: (97 - self.value) % 97,
         }
     }
 }
@@ -78,14 +54,18 @@ impl Ring for Wheel {
     }
 
     fn add(self, other: Wheel) -> Wheel {
-        self.sum(other)
+        Wheel {
+            value: (self.value + other.value) % 97,
+        }
     }
 
     fn multiply(self, other: Wheel) -> Wheel {
-        self.product(other)
+        Wheel::of(u32::from(self.value) * u32::from(other.value))
     }
 
     fn opposite(self) -> Wheel {
-        self.negative()
+        Wheel {
+            value: (97 - self.value) % 97,
+        }
     }
 }

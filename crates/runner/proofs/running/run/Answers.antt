@@ -16,7 +16,7 @@ returns g c =
     let values = map m.meaning c.run_outputs.new.outputs in
     let lawful = c.steps-steps.ensures.lawful in
     let steps_are = c.steps-steps.ensures.value in
-    let numerals_are = c.numerals-numerals.ensures in
+    let numerals_are = c.numerals.ensures in
     let sixteen : length c.outputs.result.now ≡ 16 = ap length c.outputs.ensures ∙ lawful.sixteen in
     let kept : StepValues m.ring (sheet_numerals sheet) settings (sheet_steps sheet) (length (sheet_steps sheet)) cells = subst₂ (λ (ns : List ℕ) (ss : List Step). StepValues m.ring ns settings ss (length ss) cells) numerals_are steps_are c.run_steps.ensures.steps in
     record {
