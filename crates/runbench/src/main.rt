@@ -18,19 +18,19 @@ trait Sample: Ring {
 
 impl Sample for Word {
     fn sample(value: u32, _rate: u32) -> Word {
-        Word::new(value)
+        Word::from(value)
     }
 
     fn number(self) -> u32 {
-        self.value
+        u32::from(self)
     }
 }
 
 impl Sample for Pair<Word> {
     fn sample(value: u32, rate: u32) -> Pair<Word> {
         Pair {
-            value: Word::new(value),
-            rate: Word::new(rate),
+            value: Word::from(value),
+            rate: Word::from(rate),
         }
     }
 
@@ -42,13 +42,12 @@ impl Sample for Pair<Word> {
 
 // The numbers of the outputs, each times its place from 1 on, added up modulo 2^32.
 fn checksum<R: Sample>(outputs: &[R]) -> u32 {
-    let mut sum = 0u32;
-    let mut place = 1u32;
-    for output in outputs {
-        sum = sum.wrapping_add(place.wrapping_mul(output.number()));
-        place = place.wrapping_add(1);
-    }
-    sum
+    outputs
+        .iter()
+        .zip(1..=u32::MAX)
+        .fold(0u32, |sum, (output, place)| {
+            sum.wrapping_add(place.wrapping_mul(output.number()))
+        })
 }
 
 // One run with another first measure, of the rate 1: the checksum of its outputs.
@@ -59,31 +58,20 @@ fn run_at<R: Sample>(
     cells: &mut [R],
     outputs: &mut [R],
 ) -> u32 {
-    if !measures.is_empty() {
-        measures[0] = R::sample(first, 1);
+    if let Some(measure) = measures.first_mut() {
+        *measure = R::sample(first, 1);
     }
     let mut bench = Bench::over(cells);
     let _ = run(sheet, measures, &mut bench, outputs);
     checksum(outputs)
 }
 
-// Values with no rate, the first as given and each one more than the last.
-fn samples<R: Sample>(heap: Global, first: u32, n: usize) -> Result<Vec<R>, AllocError> {
-    let mut values = Vec::new(heap);
-    let mut next = first;
-    for _k in 0..n {
-        values.push(R::sample(next, 0))?;
-        next = next.wrapping_add(1);
-    }
-    Ok(values)
-}
-
 // So many runs at the measures 2 to 9, but for the first, which goes up from 2: the sum of their
 // checksums.
 fn repeat<R: Sample>(heap: Global, sheet: &Sheet, repeats: u32) -> Result<u32, AllocError> {
-    let mut measures: Vec<R> = samples(heap, 2, 8)?;
-    let mut cells: Vec<R> = samples(heap, 0, sheet.steps().len())?;
-    let mut outputs: Vec<R> = samples(heap, 0, 16)?;
+    let mut measures: Vec<R> = (2..10).map(|value| R::sample(value, 0)).collect(heap)?;
+    let mut cells = vec![in heap; R::zero(); sheet.steps().len()]?;
+    let mut outputs = vec![in heap; R::zero(); 16]?;
     let mut sum = 0u32;
     for k in 0..repeats {
         let first = k.wrapping_add(2);
@@ -100,10 +88,7 @@ fn read_sheet(heap: Global, file: &[u8]) -> anyhow::Result<Sheet> {
         right: Operand::Zero,
     };
     let buffer = vec![in heap; filler; 2000]?;
-    match read(file, buffer) {
-        Ok(sheet) => Ok(sheet),
-        Err(_) => Err(anyhow!("the file is refused")),
-    }
+    read(file, buffer).map_err(|_| anyhow!("the file is refused"))
 }
 
 fn runbench(rt: &HostRuntime, words: &[String]) -> anyhow::Result<()> {

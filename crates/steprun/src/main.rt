@@ -1,9 +1,10 @@
 // steprun FILE KIND M0 .. M7: runs a sheet file at eight measures and prints the value of each formula.
 #![tactic(auto)]
 
+use std::alloc::AllocError;
 use std::process::ExitCode;
 use std::{env, fs};
-use tablet::{Answer, Kind, Outcome, answer_for};
+use tablet::{EvaluationError, Kind, answer_for};
 
 const WORDS: [&str; 10] = [
     "FILE", "KIND", "M0", "M1", "M2", "M3", "M4", "M5", "M6", "M7",
@@ -23,25 +24,24 @@ fn misused(rt: &HostRuntime, name: &str, why: &str) -> anyhow::Result<ExitCode> 
 
 fn wrong_measure(rt: &HostRuntime, at: usize, word: &str) -> anyhow::Result<ExitCode> {
     eprintln!(rt; "the measure is given as: {word}")?;
-    misused(
-        rt,
-        if at < 8 { WORDS[at + 2] } else { "a measure" },
-        "is no measure of this kind",
-    )
+    let name = WORDS[2..].get(at).copied().unwrap_or("a measure");
+    misused(rt, name, "is no measure of this kind")
 }
 
-fn tell(rt: &HostRuntime, outcome: Outcome) -> anyhow::Result<ExitCode> {
-    match outcome {
-        Outcome::Report(text) => {
-            rt.print(text.as_str())?;
-            Ok(ExitCode::SUCCESS)
+// Says why there is nothing to print; the run has failed.
+fn tell(rt: &HostRuntime, error: EvaluationError, measures: &[String]) -> anyhow::Result<ExitCode> {
+    match error {
+        EvaluationError::Memory => Err(AllocError.into()),
+        EvaluationError::WrongMeasure(at) => {
+            let word = measures.get(at).map_or("", |word| word.as_str());
+            wrong_measure(rt, at, word)
         }
-        Outcome::Refused { why, place } => {
+        EvaluationError::Refused { why, place } => {
             let number = why.number();
             println!(rt; "refused {number} {place}")?;
             Ok(ExitCode::FAILURE)
         }
-        Outcome::NotRun(_) => misused(rt, "M0 to M7", "are to be eight measures"),
+        EvaluationError::NotRun(_) => misused(rt, "M0 to M7", "are to be eight measures"),
     }
 }
 
@@ -58,15 +58,13 @@ fn steprun(rt: &HostRuntime, words: &[String]) -> anyhow::Result<ExitCode> {
     let Ok(file) = fs::read(rt, words[0].as_str()) else {
         return misused(rt, words[0].as_str(), "is no FILE that can be read");
     };
-    let measures = &words[2..10];
-    match answer_for(rt.alloc(), kind, &file, measures)? {
-        Answer::Outcome(outcome) => tell(rt, outcome),
-        Answer::WrongMeasure(at) if at < measures.len() => wrong_measure(
-            rt,
-            at,
-            measures[at].as_str(),
-        ),
-        Answer::WrongMeasure(at) => wrong_measure(rt, at, ""),
+    let measures = &words[2..];
+    match answer_for(rt.alloc(), kind, &file, measures) {
+        Ok(text) => {
+            rt.print(text.as_str())?;
+            Ok(ExitCode::SUCCESS)
+        }
+        Err(error) => tell(rt, error, measures),
     }
 }
 

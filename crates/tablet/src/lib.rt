@@ -2,12 +2,14 @@
 #![tactic(auto)]
 
 mod answering;
+mod error;
 mod evaluation;
 mod kind;
 mod measures;
 mod telling;
 
-pub use answering::{Answer, answer_for};
-pub use evaluation::{Outcome, Values, evaluate, run_sheet};
+pub use answering::answer_for;
+pub use error::EvaluationError;
+pub use evaluation::{evaluate, run_sheet};
 pub use kind::Kind;
-pub use measures::{Measures, read_measures};
+pub use measures::read_measures;

@@ -1,26 +1,20 @@
-ghost use Rattle.std.specs.Prelude.{◌≡◌, length, IfOk};
+ghost use Rattle.std.specs.Prelude.{◌≡◌, length};
 ghost use Rattle.tablet.specs.Measuring.{Measured};
 
+use crate::error::EvaluationError;
 use spelling::Spelled;
-use std::alloc::{AllocError, Global};
+use std::alloc::Global;
 
-// What words say as measures: their values, or the place of the first word that says none.
-#[derive(Drop)]
-pub enum Measures<R> {
-    Read(Vec<R>),
-    Wrong(usize),
-}
-
-// Reads words as values of a kind.
-pub fn read_measures<R: Spelled>(heap: Global, words: &[String]) -> Result<Measures<R>, AllocError>
-    ensures { IfOk result (λ m. Measured R.Spelled.spells words.now m) }
+// Reads words as values of a kind; the error says the place of the first word that is none.
+pub fn read_measures<R: Spelled>(heap: Global, words: &[String]) -> Result<Vec<R>, EvaluationError>
+    ensures { Measured R.Spelled.spells words.now result }
 {
     let mut values = Vec::new(heap);
     for (k, word) in words.iter().enumerate() {
-        match R::read(word.as_str()) {
-            Some(value) => values.push(value)?,
-            None => return Ok(Measures::Wrong(k)),
-        }
+        let Some(value) = R::read(word.as_str()) else {
+            return Err(EvaluationError::WrongMeasure(k));
+        };
+        values.push(value)?;
     }
-    Ok(Measures::Read(values))
+    Ok(values)
 }
