@@ -52,7 +52,7 @@ fn steprun(rt: &HostRuntime, words: &[String]) -> anyhow::Result<ExitCode> {
     if words.len() > 10 {
         return misused(rt, words[10].as_str(), "is one word too many");
     }
-    let Some(kind) = Kind::named(words[1].as_str()) else {
+    let Ok(kind) = words[1].as_str().parse::<Kind>() else {
         return misused(rt, words[1].as_str(), "is no KIND");
     };
     let Ok(file) = fs::read(rt, words[0].as_str()) else {

@@ -9,11 +9,6 @@ item_at [] k h = absurd (omega arith)
 item_at (x ∷ xs) zero h = (x, λ d. refl)
 item_at (x ∷ xs) (suc k) h = item_at xs k (omega arith)
 
--- three texts added one after another
-pub three_more : (start one two last a b e : List ℕ) → one ≡ start ++ a → two ≡ one ++ b → last ≡ two ++ e → last ≡ start ++ (a ++ (b ++ e))
-three_more start one two last a b e p q r =
-    r ∙ ap (λ (xs : List ℕ). xs ++ e) (q ∙ ap (λ (xs : List ℕ). xs ++ b) p) ∙ append_assoc (start ++ a) b e ∙ append_assoc start a (b ++ e)
-
 -- one line more
 pub lines_more : (front text more : List ℕ) (n : ℕ) (line : ℕ → List ℕ) → text ≡ front ++ lines_below n line → more ≡ text ++ line n → more ≡ front ++ lines_below (n + 1) line
 unfolding lines_below

@@ -31,7 +31,7 @@ impl<T: Drop> From<AllocFailed<T>> for EvaluationError {
     ghost from_gives = { λ _ e. e ≡ Memory };
 
     fn from(_error: AllocFailed<T>) -> EvaluationError {
-        EvaluationError::Memory
+        EvaluationError::from(AllocError)
     }
 }
 

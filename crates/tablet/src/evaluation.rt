@@ -41,6 +41,5 @@ pub fn evaluate<R: Spelled>(
     let buffer = vec![in heap; filler; 2000]?;
     let sheet = read(file, buffer)?;
     let values = run_sheet(heap, &sheet, measures)?;
-    let text = report(heap, &sheet, &values)?;
-    Ok(text)
+    Ok(report(heap, &sheet, &values)?)
 }

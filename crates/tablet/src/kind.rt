@@ -1,5 +1,7 @@
-ghost use Rattle.std.specs.Prelude.{◌≡◌, MatchOption, ◌≢◌};
+ghost use Rattle.std.specs.Prelude.{◌≡◌, MatchResult, ◌≢◌};
 ghost use Rattle.tablet.specs.Kinds.{kind_name};
+
+use std::str::FromStr;
 
 // The kinds of number that a file can be run over.
 #[derive(Clone, Copy, PartialEq, Eq, Debug)]
@@ -10,16 +12,24 @@ pub enum Kind {
     Pair,
 }
 
-impl Kind {
-    // The kind with this name, where there is one.
-    pub fn named(name: &str) -> Option<Kind>
-        ensures { MatchOption result ((k : Kind) → kind_name k ≢ name.now) (λ k. kind_name k ≡ name.now) }
-    {
+// A text that is the name of no kind.
+#[derive(Clone, Copy, PartialEq, Eq, Debug)]
+pub struct UnknownKind;
+
+// The kind with this name.
+impl FromStr for Kind {
+    ghost use Rattle.tablet.specs.declared.kind.Kind.{Kind};
+
+    type Err = UnknownKind;
+
+    ghost from_str_gives = { λ name r. MatchResult r (λ k. kind_name k ≡ name) (λ _. (k : Kind) → kind_name k ≢ name) };
+
+    fn from_str(name: &str) -> Result<Kind, UnknownKind> {
         match name {
-            "word" => Some(Kind::Word),
-            "wheel" => Some(Kind::Wheel),
-            "pair" => Some(Kind::Pair),
-            _ => None,
+            "word" => Ok(Kind::Word),
+            "wheel" => Ok(Kind::Wheel),
+            "pair" => Ok(Kind::Pair),
+            _ => Err(UnknownKind),
         }
     }
 }

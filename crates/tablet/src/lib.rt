@@ -11,5 +11,5 @@ mod telling;
 pub use answering::answer_for;
 pub use error::EvaluationError;
 pub use evaluation::{evaluate, run_sheet};
-pub use kind::Kind;
+pub use kind::{Kind, UnknownKind};
 pub use measures::read_measures;

@@ -7,14 +7,18 @@ use std::alloc::Global;
 use std::test::Fail;
 
 fn worked(heap: Global) -> Result<Sheet, Fail> {
-    match read(&FILE, marked(heap, 4)?) {
-        Ok(sheet) => Ok(sheet),
-        Err(_) => Err(Fail::new("refused")),
-    }
+    read(&FILE, marked(heap, 4)?).map_err(|_| Fail::new("refused"))
 }
 
 fn word(value: u32) -> Word {
-    Word { value }
+    Word::from(value)
+}
+
+fn pair(value: u32, rate: u32) -> Pair<Word> {
+    Pair {
+        value: word(value),
+        rate: word(rate),
+    }
 }
 
 // A run with so many measures, cells and places is refused with the number, and leaves cells and places as they were.
@@ -33,14 +37,10 @@ fn refused(
         return Err(Fail::new("more than there are"));
     }
     let mut bench = Bench::over(&mut bench_cells[0..cells]);
-    match run(
-        &sheet,
-        &settings[0..measures],
-        &mut bench,
-        &mut outputs[0..places],
-    ) {
+    let measures = &settings[0..measures];
+    match run(&sheet, measures, &mut bench, &mut outputs[0..places]) {
         Ok(()) => return Err(Fail::new("ran")),
-        Err(why) if why.number() != number => return Err(Fail::new("another number")),
+        Err(why) if u8::from(why) != number => return Err(Fail::new("another number")),
         Err(_) => {}
     }
     if bench_cells != [word(77); 9] || outputs != [word(88); 17] {
@@ -68,9 +68,7 @@ fn words(rt: HostRuntime) -> Result<(), Fail> {
     let mut cells = [word(77); 6];
     let mut outputs = [word(88); 16];
     let mut bench = Bench::over(&mut cells);
-    if let Err(_) = run(&sheet, &measures, &mut bench, &mut outputs) {
-        return Err(Fail::new("refused"));
-    }
+    run(&sheet, &measures, &mut bench, &mut outputs).map_err(|_| Fail::new("refused"))?;
     assert!(rt; cells == [word(6), word(6), word(36), word(30), word(77), word(77)]);
     let zeros = [word(0); 16];
     assert!(rt; outputs[0] == word(36) && outputs[1] == word(30) && outputs[2..16] == zeros[2..16]);
@@ -80,31 +78,17 @@ fn words(rt: HostRuntime) -> Result<(), Fail> {
 #[test]
 fn pairs(rt: HostRuntime) -> Result<(), Fail> {
     let sheet = worked(rt.alloc())?;
-    let none = Pair {
-        value: word(0),
-        rate: word(0),
-    };
+    let none = pair(0, 0);
     let mut measures = [none; 8];
-    measures[0] = Pair {
-        value: word(2),
-        rate: word(1),
-    };
-    measures[1] = Pair {
-        value: word(3),
-        rate: word(0),
-    };
-    measures[2] = Pair {
-        value: word(4),
-        rate: word(0),
-    };
+    measures[0] = pair(2, 1);
+    measures[1] = pair(3, 0);
+    measures[2] = pair(4, 0);
     let mut cells = [none; 4];
     let mut outputs = [none; 16];
     let mut bench = Bench::over(&mut cells);
-    if let Err(_) = run(&sheet, &measures, &mut bench, &mut outputs) {
-        return Err(Fail::new("refused"));
-    }
-    assert_eq!(rt; outputs[0].value.number(), 36);
-    assert_eq!(rt; outputs[0].rate.number(), 24);
+    run(&sheet, &measures, &mut bench, &mut outputs).map_err(|_| Fail::new("refused"))?;
+    assert_eq!(rt; u32::from(outputs[0].value), 36);
+    assert_eq!(rt; u32::from(outputs[0].rate), 24);
     Ok(())
 }
 
@@ -123,18 +107,15 @@ fn wheels(rt: HostRuntime) -> Result<(), Fail> {
         left: Operand::ResultOf(0),
         right: Operand::Zero,
     };
-    let Ok(sheet) = Sheet::make(Numerals::none(), steps, 2, [Operand::ResultOf(1); 16]) else {
-        return Err(Fail::new("refused"));
-    };
+    let made = Sheet::make(Numerals::none(), steps, 2, [Operand::ResultOf(1); 16]);
+    let sheet = made.map_err(|_| Fail::new("refused"))?;
     let mut measures = [Wheel::of(0); 8];
     measures[0] = Wheel::of(2);
     measures[1] = Wheel::of(3);
     let mut cells = [Wheel::of(0); 2];
     let mut outputs = [Wheel::of(0); 16];
     let mut bench = Bench::over(&mut cells);
-    if let Err(_) = run(&sheet, &measures, &mut bench, &mut outputs) {
-        return Err(Fail::new("refused"));
-    }
+    run(&sheet, &measures, &mut bench, &mut outputs).map_err(|_| Fail::new("refused"))?;
     assert!(rt; cells == [Wheel::of(96), Wheel::of(1)]);
     assert!(rt; outputs == [Wheel::of(1); 16]);
     Ok(())

@@ -22,5 +22,5 @@ returns g c =
       in_file = c.in_ok-sheet.ensures.answer.0;
       values = vec_items values;
       worth = c.in_ok-values.ensures;
-      printed = c.in_ok-text.ensures ∙ ap (λ (xs : List g.row.R.Denot). report_text (sheet_steps sheet) (sheet_outputs sheet) (map g.R.Spelled.shows xs)) c.deref.ensures.value;
+      printed = c.in_ok-report.ensures ∙ ap (λ (xs : List g.row.R.Denot). report_text (sheet_steps sheet) (sheet_outputs sheet) (map g.R.Spelled.shows xs)) c.deref.ensures.value;
     }
