@@ -3,5 +3,4 @@ pub mod Made
 mod Orders
 mod Rows
 pub mod Shared
-pub mod Signs
 pub mod Tests

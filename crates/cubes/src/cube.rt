@@ -92,7 +92,8 @@ impl Cube {
 
     // the greatest cube that divides both
     pub fn common(self, other: Cube) -> Cube
-        ensures { Same (power result) (common (power self) (power other)) }
+        ensures is { Same (power result) (common (power self) (power other)) }
+        ensures bytes { Bytes (power other) }
     {
         Cube {
             powers: array::from_fn(|l| self.powers[l].min(other.powers[l])),

@@ -1,5 +1,5 @@
 -- From an expression to its quotient by the common cube of its rows, and back.
-use Rattle.std.proofs.Common.{◌≡◌, ℕ, ◌<◌, ◌≤◌, List, [], length, get_or, ap, inl, inr, arith}
+use Rattle.std.proofs.Common.{◌≡◌, ℕ, ◌<◌, ◌≤◌, List, [], length, get_or, ap, inl, inr, arith, is_some}
 use Rattle.std.proofs.lemmas.List.{length-take}
 use Rattle.std.proofs.lemmas.Bool.{cases_lt, both_ways}
 use Rattle.algebra.specs.Cubes.{Powers, Divides}
@@ -20,7 +20,7 @@ use Rattle.kernels.proofs.Letters.{row_of, row_in}
 
 -- an expression has few rows
 pub few_rows : (e : Expression) → length (rows_of e) ≤ most_rows
-few_rows e = omega (arith, length-take e.len e.rows, e.few)
+few_rows e = omega (arith, length-take e.rows.len e.rows.items, e.rows.within)
 
 module _ (e : List Row) (short : length e ≤ most_rows) (q : Rest) (spread : Spread e q) where
   live : (k : ℕ) → k < length e → Live q k
@@ -30,7 +30,7 @@ module _ (e : List Row) (short : length e ≤ most_rows) (q : Rest) (spread : Sp
   inside k w =
       elim (cases_lt k (length e)) [
         | inl h ↦ h
-        | inr h ↦ absurd (both_ways (slot q k).used (spread.past k w.0 h) w.1)
+        | inr h ↦ absurd (both_ways (is_some (slot q k)) (spread.past k w.0 h) w.1)
       ]
 
   pub bare : Lone q → Bare e

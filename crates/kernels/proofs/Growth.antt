@@ -1,5 +1,5 @@
 -- The list of kernels grows by those that a letter leads to.
-use Rattle.std.proofs.Common.{◌≡◌, ℕ, zero, suc, ◌+◌, ◌-◌, ◌^◌, ◌<◌, ◌≤◌, min, Bool, false, ◌⊎◌, List, [], ◌∷◌, ◌++◌, length, get_or, set, sym, refl, ap, ◌∙◌, subst, inl, inr, arith, below_more}
+use Rattle.std.proofs.Common.{◌≡◌, ℕ, zero, suc, ◌+◌, ◌-◌, ◌^◌, ◌<◌, ◌≤◌, min, Bool, false, ◌⊎◌, List, [], ◌∷◌, ◌++◌, length, get_or, set, sym, refl, ap, ◌∙◌, subst, inl, inr, arith, below_more, is_some}
 use Rattle.std.proofs.lemmas.List.{get_or_append_left, get_or-append_right, get_or-append-add, length-append}
 use Rattle.std.proofs.lemmas.Bool.{cases_lt}
 use Rattle.algebra.specs.Cubes.{letters, Powers, Same, Divides, Before}
@@ -16,7 +16,7 @@ use Rattle.kernels.proofs.Overlays.{overlay_one, overlay_over, written_as, writt
 
 -- the list of one kernel, d itself
 module _ (n : ℕ) (q : Rest) (d : Cube) (us : List Bool) (own : IsKernel q (power d) (power d))
-    (mask : (k : ℕ) → k < most_rows → get_or us k false ≡ (slot q k).used) where
+    (mask : (k : ℕ) → k < most_rows → get_or us k false ≡ (is_some (slot q k))) where
   one : Kernel
   one = record { expression = n; cokernel = d; rows = us }
 
@@ -187,7 +187,7 @@ written_child n q d i j from old mid new m z r c e lt short leads f g =
 
 -- the loop begins with d itself written
 pub written_one : (n : ℕ) (q : Rest) (d : Cube) (us : List Bool) (from : ℕ) (old new : List Kernel) (m : ℕ)
-    → IsKernel q (power d) (power d) → ((k : ℕ) → k < most_rows → get_or us k false ≡ (slot q k).used)
+    → IsKernel q (power d) (power d) → ((k : ℕ) → k < most_rows → get_or us k false ≡ (is_some (slot q k)))
     → m ≡ min (from + 1) (2 ^ 64 - 1) → new ≡ set old from (record { expression = n; cokernel = d; rows = us })
     → Written (Kernels n q (power d) letters) from new new m
 written_one n q d us from old new m own mask end written =

@@ -5,7 +5,7 @@ use Rattle.std.proofs.lemmas.Bool.{cases_lt}
 use Rattle.cubes.specs.declared.expression.Expression.{Expression}
 use Rattle.cubes.specs.Expressions.{rows_of}
 use Rattle.kernels.specs.declared.kernel.Kernel.{Kernel}
-use Rattle.kernels.specs.Joins.{JoinedFrom, Joined, OneJoinedList}
+use Rattle.kernels.specs.Joins.{JoinedFrom, OneJoinedList}
 use Rattle.kernels.specs.Kernels.{no_kernel, KernelList, SameKernel, Alike}
 use Rattle.kernels.proofs.Uniques.{one_list}
 
@@ -38,7 +38,7 @@ alike_join xs ys zs ws f g = (
   ],
 )
 
-alike_from : (n : ℕ) (es : List Expression) (xs ys : List Kernel) → JoinedFrom n es xs → JoinedFrom n es ys → Alike xs ys
+pub alike_from : (n : ℕ) (es : List Expression) (xs ys : List Kernel) → JoinedFrom n es xs → JoinedFrom n es ys → Alike xs ys
 alike_from n [] xs ys f g = (ap length (f ∙ sym g), λ a h. absurd (omega (arith, ap length f)))
 alike_from n (e ∷ es) xs ys f g =
     subst (λ t. Alike t ys) (sym f.4)
@@ -49,10 +49,10 @@ pub one_joined_list : OneJoinedList
 one_joined_list es xs ys f g = alike_from 0 es xs ys f g
 
 -- the expression at the place k is next
-pub joined_more : (es : List Expression) (k : ℕ) (e : Expression) (xs ys : List Kernel) → k < length es → e ≡ get_or es k e
-    → Joined (take k es) xs → KernelList k (rows_of e) ys → Joined (take (k + 1) es) (xs ++ ys)
-joined_more es k e xs ys lt is j h =
+pub joined_more : (n : ℕ) (es : List Expression) (k : ℕ) (e : Expression) (xs ys : List Kernel) → k < length es → e ≡ get_or es k e
+    → JoinedFrom n (take k es) xs → KernelList (n + k) (rows_of e) ys → JoinedFrom n (take (k + 1) es) (xs ++ ys)
+joined_more n es k e xs ys lt is j h =
     let more : take (k + 1) es ≡ take k es ++ (e ∷ []) = take_more es k e lt ∙ ap (λ x. take k es ++ (x ∷ [])) (sym is) in
-    let number : k ≡ 0 + length (take k es) = omega (arith, length-take-le k es (omega arith)) in
-    subst (λ t. Joined t (xs ++ ys)) (sym more)
-    (joined_push 0 (take k es) e xs ys j (subst (λ m. KernelList m (rows_of e) ys) number h))
+    let number : n + k ≡ n + length (take k es) = omega (arith, length-take-le k es (omega arith)) in
+    subst (λ t. JoinedFrom n t (xs ++ ys)) (sym more)
+    (joined_push n (take k es) e xs ys j (subst (λ m. KernelList m (rows_of e) ys) number h))

@@ -1,5 +1,5 @@
 -- Dividing by a letter, and by the common cube of what is left.
-use Rattle.std.proofs.Common.{◌≡◌, ℕ, ◌+◌, ◌<◌, ◌≤◌, eqb, sym, refl, ◌∙◌, subst, inl, inr, arith}
+use Rattle.std.proofs.Common.{◌≡◌, ℕ, ◌+◌, ◌<◌, ◌≤◌, eqb, sym, refl, ◌∙◌, subst, inl, inr, arith, is_some}
 use Rattle.std.proofs.lemmas.Bool.{cases_Bool, cases_eq, cond-true, cond-false, eq-eqb, ne_eqb}
 use Rattle.algebra.specs.Cubes.{letters, Powers, Same, Divides, letter, product}
 use Rattle.cubes.specs.Powers.{Passes}
@@ -17,7 +17,7 @@ row_of q c r h k w =
 -- a row that c divides is in the quotient
 pub row_in : (q : Rest) (c : Powers) (r : Rest) → Quotient q c r → (k : ℕ) → Live q k → Divides c (row q k) → Live r k
 row_in q c r h k w d =
-    elim (cases_Bool (slot r k).used) [
+    elim (cases_Bool (is_some (slot r k))) [
       | inl u ↦ (w.0, u)
       | inr u ↦ absurd (let f = (h k w.0).left w.1 u in omega (arith, f.2, d f.0 f.1))
     ]

@@ -1,4 +1,4 @@
-mod Places
+mod Pairs
 mod Lows
 mod Letters
 mod Beginnings

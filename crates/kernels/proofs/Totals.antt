@@ -1,5 +1,5 @@
 -- The total degree falls.
-use Rattle.std.proofs.Common.{ℕ, ◌<◌, ◌≤◌, cond, inl, inr, arith}
+use Rattle.std.proofs.Common.{ℕ, ◌<◌, ◌≤◌, cond, inl, inr, arith, is_some}
 use Rattle.std.proofs.lemmas.Bool.{cases_Bool, cond-true, cond-false}
 use Rattle.algebra.specs.Cubes.{letters, Powers}
 use Rattle.algebra.specs.Rows.{degree}
@@ -14,27 +14,27 @@ module _ (q : Rest) (d : Powers) (j : ℕ) (lt : j < letters) (r : Rest) (c : Po
   less k w l h = omega (arith, (leads.rows k w).1 l h, leads.above l h)
 
   of : Rest → ℕ → ℕ
-  of s k = cond (slot s k).used (degree (row s k)) 0
+  of s k = cond (is_some (slot s k)) (degree (row s k)) 0
 
   of_le : (k : ℕ) → k < most_rows → of r k ≤ of q k
   unfolding of
   of_le k h =
-      elim (cases_Bool (slot r k).used) [
+      elim (cases_Bool (is_some (slot r k))) [
         | inl u ↦
             rw (
-              cond-true (slot r k).used (degree (row r k)) 0 u,
-              cond-true (slot q k).used (degree (row q k)) 0 (leads.rows k (h, u)).0.1,
+              cond-true (is_some (slot r k)) (degree (row r k)) 0 u,
+              cond-true (is_some (slot q k)) (degree (row q k)) 0 (leads.rows k (h, u)).0.1,
             )
             (up_to_le letters (row r k) (row q k) (less k (h, u)))
-        | inr u ↦ rw (cond-false (slot r k).used (degree (row r k)) 0 u) (omega arith)
+        | inr u ↦ rw (cond-false (is_some (slot r k)) (degree (row r k)) 0 u) (omega arith)
       ]
 
   of_lt : (k : ℕ) → Live r k → of r k < of q k
   unfolding of
   of_lt k w =
       rw (
-        cond-true (slot r k).used (degree (row r k)) 0 w.1,
-        cond-true (slot q k).used (degree (row q k)) 0 (leads.rows k w).0.1,
+        cond-true (is_some (slot r k)) (degree (row r k)) 0 w.1,
+        cond-true (is_some (slot q k)) (degree (row q k)) 0 (leads.rows k w).0.1,
       )
       (up_to_lt letters (row r k) (row q k) (less k w) j lt (omega (arith, (leads.rows k w).1 j lt, leads.more)))
 

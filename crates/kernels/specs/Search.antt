@@ -1,5 +1,5 @@
 -- The search's own words: what it lists from a quotient q, already divided by d.
-use Rattle.std.specs.Prelude.{◌≡◌, ℕ, ◌+◌, ◌<◌, ◌≤◌, true, false, cond, List, length, slice_index_or}
+use Rattle.std.specs.Prelude.{◌≡◌, ℕ, ◌+◌, ◌<◌, ◌≤◌, true, false, cond, List, length, slice_index_or, is_some}
 use Rattle.algebra.specs.Cubes.{letters, Powers, Same, Divides, Before}
 use Rattle.cubes.specs.declared.row.Row.{Row}
 use Rattle.algebra.specs.Rows.{degree}
@@ -58,7 +58,7 @@ Barren q d j = (c : Powers) → IsKernel q d c → Divides d c → Agrees j d c 
 
 -- the total degree of the rows that are left
 abbrev pub total : Rest → ℕ
-total q = up_to counting most_rows (λ k. cond (slot q k).used (degree (row q k)) 0)
+total q = up_to counting most_rows (λ k. cond (is_some (slot q k)) (degree (row q k)) 0)
 
 -- ---- the beginning
 

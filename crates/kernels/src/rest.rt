@@ -1,61 +1,15 @@
-ghost use Rattle.std.specs.Prelude.{◌≡◌, ℕ, ◌<◌, ◌≤◌, min, true, false, slice_index_or};
-ghost use Rattle.algebra.specs.Cubes.{letters};
+ghost use Rattle.std.specs.Prelude.{◌≡◌, ℕ, ◌<◌, ◌≤◌, true, false, is_some, slice_index_or};
 ghost use Rattle.cubes.specs.Expressions.{rows_of};
 ghost use Rattle.cubes.specs.Powers.{power};
 ghost use Rattle.cubes.specs.Rows.{most_rows};
-ghost use Rattle.kernels.specs.Rests.{slot, Live, SlotQuotient, Quotient, Pair, Lone, Lowest, Greatest, Spread};
+ghost use Rattle.kernels.specs.Rests.{slot, SlotQuotient, Quotient, Pair, Lone, Greatest, Spread};
 
 use cubes::{Cube, Expression, LETTERS, ROWS};
 
-// A row's place: its cube, while the row is left.
-#[derive(Clone, Copy)]
-pub(crate) struct Slot {
-    pub cube: Cube,
-    pub used: bool,
-}
-
-// The rows that are left of an expression, each at its own place.
+// The rows that are left of an expression: the cube of each at its own place, and none where a row has gone.
 #[derive(Clone, Copy)]
 pub(crate) struct Rest {
-    pub slots: [Slot; ROWS],
-}
-
-impl Slot {
-    fn unused() -> Slot
-        ensures { result.used ≡ false }
-    {
-        Slot {
-            cube: Cube::one(),
-            used: false,
-        }
-    }
-
-    // the row divided by c, where c divides it
-    fn quotient(&self, c: Cube) -> Slot
-        ensures { SlotQuotient self.now (power c) result }
-    {
-        if !self.used {
-            return Slot::unused();
-        }
-        match self.cube.divide(c) {
-            Some(cube) => Slot { cube, used: true },
-            None => Slot::unused(),
-        }
-    }
-
-    // the lower of p and the row's power of the letter l, where the row is left
-    fn lower(&self, l: usize, p: u8) -> u8
-        requires { l < letters }
-        ensures yes { self.now.used ≡ true → result ≡ min p (power self.now.cube l) }
-        ensures no { self.now.used ≡ false → result ≡ p }
-        ensures fits { self.now.used ≡ true → power self.now.cube l ≤ 255 }
-    {
-        if self.used {
-            p.min(self.cube.powers[l])
-        } else {
-            p
-        }
-    }
+    pub slots: [Option<Cube>; ROWS],
 }
 
 impl Rest {
@@ -63,13 +17,9 @@ impl Rest {
     pub(crate) fn whole(e: &Expression) -> Rest
         ensures { Spread (rows_of e.now) result }
     {
-        let rows = e.rows();
-        let mut slots = [Slot::unused(); ROWS];
-        for k in 0..rows.len() {
-            slots[k] = Slot {
-                cube: rows[k].cube,
-                used: true,
-            };
+        let mut slots = [None; ROWS];
+        for (k, row) in e.rows().iter().enumerate() {
+            slots[k] = Some(row.cube);
         }
         Rest { slots }
     }
@@ -78,25 +28,11 @@ impl Rest {
     pub(crate) fn quotient(&self, c: Cube) -> Rest
         ensures { Quotient self.now (power c) result }
     {
-        let mut slots = [Slot::unused(); ROWS];
-        for k in 0..ROWS {
-            slots[k] = self.slots[k].quotient(c);
+        let mut slots = self.slots;
+        for slot in &mut slots {
+            *slot = slot.and_then(|cube| cube.divide(c));
         }
         Rest { slots }
-    }
-
-    // whether a row before the place m is left
-    fn has_before(&self, m: usize) -> bool
-        requires { m ≤ most_rows }
-        ensures yes { result ≡ true → ((k : ℕ) × (k < m) × Live self.now k) }
-        ensures no { result ≡ false → (k : ℕ) → k < m → Live self.now k → ⊥ }
-    {
-        for k in 0..m {
-            if self.slots[k].used {
-                return true;
-            }
-        }
-        false
     }
 
     // whether two rows or more are left
@@ -104,25 +40,7 @@ impl Rest {
         ensures yes { result ≡ true → Pair self.now }
         ensures no { result ≡ false → Lone self.now }
     {
-        for m in 0..ROWS {
-            if self.slots[m].used && self.has_before(m) {
-                return true;
-            }
-        }
-        false
-    }
-
-    // the lowest power of the letter l in a row
-    fn lowest(&self, l: usize) -> u8
-        requires letter { l < letters }
-        requires rows { Pair self.now }
-        ensures { Lowest self.now l result }
-    {
-        let mut p = 255;
-        for k in 0..ROWS {
-            p = self.slots[k].lower(l, p);
-        }
-        p
+        self.slots.iter().filter(|slot| slot.is_some()).count() >= 2
     }
 
     // the greatest cube that divides every row
@@ -130,21 +48,21 @@ impl Rest {
         requires { Pair self.now }
         ensures { Greatest self.now (power result) }
     {
-        let mut powers = [0; LETTERS];
-        for l in 0..LETTERS {
-            powers[l] = self.lowest(l);
+        let mut common = Cube {
+            powers: [u8::MAX; LETTERS],
+        };
+        for slot in &self.slots {
+            if let Some(cube) = slot {
+                common = common.common(*cube);
+            }
         }
-        Cube { powers }
+        common
     }
 
     // which rows are left
     pub(crate) fn used_rows(&self) -> [bool; ROWS]
-        ensures { (k : ℕ) → k < most_rows → slice_index_or result k false ≡ (slot self.now k).used }
+        ensures { (k : ℕ) → k < most_rows → slice_index_or result k false ≡ is_some (slot self.now k) }
     {
-        let mut used = [false; ROWS];
-        for k in 0..ROWS {
-            used[k] = self.slots[k].used;
-        }
-        used
+        self.slots.map(|slot| slot.is_some())
     }
 }

@@ -22,12 +22,7 @@ fn has_before(c: Cube, j: usize) -> bool
     ensures yes { result ≡ true → ((l : ℕ) × (l < j) × (0 < power c l)) }
     ensures no { result ≡ false → (l : ℕ) → l < j → power c l ≡ 0 }
 {
-    for l in 0..j {
-        if c.powers[l] > 0 {
-            return true;
-        }
-    }
-    false
+    c.powers[..j].iter().any(|p| *p > 0)
 }
 
 // Divides the whole expression by the common cube of its rows.

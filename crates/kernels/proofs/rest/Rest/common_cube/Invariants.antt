@@ -1,8 +1,8 @@
-use Rattle.std.proofs.Common.{◌≡◌, ℕ, ◌<◌, length, get_or}
+use Rattle.std.proofs.Common.{ℕ, ◌<◌}
 use Rattle.algebra.specs.Cubes.{letters}
-use Rattle.kernels.specs.Rests.{Lowest}
+use Rattle.cubes.specs.Powers.{power}
+use Rattle.kernels.proofs.Lows.{Low}
 use Rattle.kernels.proofs.rest.Rest.common_cube.Given as goal
 
-abbrev pub invariant-loop-l : goal.invariant-loop-l
-invariant-loop-l l = (length l.powers ≡ letters)
-    × ((k : ℕ) → k < l.l → Lowest l.self k (get_or l.powers k 0))
+abbrev pub invariant-loop-slot : goal.invariant-loop-slot
+invariant-loop-slot l = (j : ℕ) → j < letters → Low l.self j l.slot-index (power l.common j)

@@ -1,9 +1,10 @@
-use Rattle.std.proofs.Common.{◌≡◌, ℕ, ◌<◌, length, get_or}
+use Rattle.std.proofs.Common.{◌≡◌, ℕ, ◌<◌, ◌≤◌, None, length, get_or}
 use Rattle.cubes.specs.Powers.{power}
 use Rattle.cubes.specs.Rows.{most_rows}
-use Rattle.kernels.specs.Rests.{SlotQuotient, no_slot, slot}
+use Rattle.kernels.specs.Rests.{SlotQuotient, slot}
 use Rattle.kernels.proofs.rest.Rest.quotient.Given as goal
 
-abbrev pub invariant-loop-k : goal.invariant-loop-k
-invariant-loop-k l = (length l.slots ≡ most_rows)
-    × ((k : ℕ) → k < l.k → SlotQuotient (slot l.self k) (power l.c) (get_or l.slots k no_slot))
+abbrev pub invariant-loop-slot : goal.invariant-loop-slot
+invariant-loop-slot l = (length l.slot-items ≡ most_rows)
+    × ((k : ℕ) → k < l.slot-index → SlotQuotient (slot l.self k) (power l.c) (get_or l.slot-items k None))
+    × ((k : ℕ) → l.slot-index ≤ k → get_or l.slot-items k None ≡ slot l.self k)
