@@ -1,12 +1,17 @@
--- An expression made of a list of rows, row by row.
+-- An expression made of a list of rows, row by row; and how many rows it has.
 use Rattle.std.proofs.Common.{◌≡◌, ℕ, ◌+◌, ◌<◌, ◌≤◌, List, [], ◌∷◌, ◌++◌, length, get_or, take, sym, ap, ◌∙◌, subst, arith}
 use Rattle.std.proofs.lemmas.List.{take_more, take_all, get_or-take, length-take, length-take-le}
 use Rattle.cubes.specs.Powers.{power}
 use Rattle.cubes.specs.Rows.{no_row, most_rows, powers_at, Apart}
-use Rattle.cubes.specs.Expressions.{Added, Refuses, Unfit}
+use Rattle.cubes.specs.Expressions.{Added, Refuses, Unfit, rows_of}
+use Rattle.cubes.specs.declared.expression.Expression.{Expression}
 use Rattle.cubes.specs.declared.expression.Refused.{Refused}
 use Rattle.cubes.specs.declared.expression.Refused.TheVariants.{Full, Double}
 use Rattle.cubes.specs.declared.row.Row.{Row}
+
+-- an expression has few rows
+pub few_rows : (e : Expression) → length (rows_of e) ≤ most_rows
+few_rows e = omega (arith, length-take e.rows.len e.rows.items, e.rows.within)
 
 at_front : (xs : List Row) (n k l : ℕ) → k < n → powers_at (take n xs) k l ≡ powers_at xs k l
 at_front xs n k l h = ap (λ (y : Row). power y.cube l) (get_or-take n xs k no_row h)

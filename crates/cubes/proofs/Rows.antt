@@ -7,6 +7,7 @@ use Rattle.cubes.specs.Rows.{no_row, most_rows, powers_at, Apart, Holds}
 use Rattle.cubes.specs.Expressions.{Rows, rows_of}
 use Rattle.cubes.specs.declared.expression.Expression.{Expression}
 use Rattle.cubes.specs.declared.row.Row.{Row}
+use Rattle.cubes.proofs.Made.{few_rows}
 use Rattle.few.specs.Listed.{listed}
 use Rattle.few.specs.declared.few.Few.{Few}
 
@@ -44,6 +45,6 @@ pushed old new x (Err y) apart fresh e = subst (λ (f : Few Row 8). Apart (liste
 pub kept : (e : Expression) (xs : List Row) → xs ≡ rows_of e → Rows e xs
 kept e xs are = record {
   are = are;
-  few = omega (arith, ap length are, length-take e.rows.len e.rows.items, e.rows.within);
+  few = omega (arith, ap length are, few_rows e);
   apart = subst Apart (sym are) e.apart;
 }

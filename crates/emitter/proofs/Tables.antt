@@ -7,6 +7,7 @@ use Rattle.algebra.specs.Sums.{counting, total}
 use Rattle.algebra.proofs.Sums.{total_append}
 use Rattle.cubes.specs.declared.expression.Expression.{Expression}
 use Rattle.cubes.specs.declared.row.Row.{Row}
+use Rattle.cubes.proofs.Made.{few_rows as few}
 use Rattle.cubes.specs.Expressions.{rows_of}
 use Rattle.cubes.specs.Rows.{as_rows}
 use Rattle.emission.specs.Steps.{emitted, expression_steps}
@@ -18,7 +19,7 @@ use Rattle.table.proofs.Looks.{rows_read}
 
 few_rows : (xs : List Expression) (e : ℕ) → length (get_or (map rows_of xs) e []) ≤ 8
 few_rows [] e = omega arith
-few_rows (x ∷ xs) zero = omega (arith, length-take x.len x.rows, x.few)
+few_rows (x ∷ xs) zero = few x
 few_rows (x ∷ xs) (suc e) = few_rows xs e
 
 pub rows_few : (t : Table) (e : ℕ) → length (rows_at t e) ≤ 8

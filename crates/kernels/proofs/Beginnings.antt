@@ -1,12 +1,9 @@
 -- From an expression to its quotient by the common cube of its rows, and back.
 use Rattle.std.proofs.Common.{◌≡◌, ℕ, ◌<◌, ◌≤◌, List, [], length, get_or, ap, inl, inr, arith, is_some}
-use Rattle.std.proofs.lemmas.List.{length-take}
 use Rattle.std.proofs.lemmas.Bool.{cases_lt, both_ways}
 use Rattle.algebra.specs.Cubes.{Powers, Divides}
 use Rattle.cubes.specs.declared.cube.Cube.{Cube}
-use Rattle.cubes.specs.declared.expression.Expression.{Expression}
 use Rattle.cubes.specs.declared.row.Row.{Row}
-use Rattle.cubes.specs.Expressions.{rows_of}
 use Rattle.cubes.specs.Powers.{power}
 use Rattle.cubes.specs.Rows.{most_rows, powers_at}
 use Rattle.kernels.specs.declared.kernel.Kernel.{Kernel}
@@ -17,10 +14,6 @@ use Rattle.kernels.specs.Lists.{Written}
 use Rattle.kernels.specs.Rests.{Live, row, slot, Quotient, Pair, Lone, Greatest, Spread}
 use Rattle.kernels.specs.Search.{Under, IsKernel, Entry, Kernels, Small, Begins, Bare}
 use Rattle.kernels.proofs.Letters.{row_of, row_in}
-
--- an expression has few rows
-pub few_rows : (e : Expression) → length (rows_of e) ≤ most_rows
-few_rows e = omega (arith, length-take e.rows.len e.rows.items, e.rows.within)
 
 module _ (e : List Row) (short : length e ≤ most_rows) (q : Rest) (spread : Spread e q) where
   live : (k : ℕ) → k < length e → Live q k

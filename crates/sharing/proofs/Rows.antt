@@ -8,6 +8,7 @@ use Rattle.algebra.specs.Rows.{Row as Term, degree, divides_test}
 use Rattle.algebra.specs.Sums.{counting, up_to}
 use Rattle.algebra.proofs.Degrees.{degree_same, divides_decides}
 use Rattle.algebra.proofs.Sums.{total_same, up_to_more, up_to_same}
+use Rattle.cubes.proofs.Made.{few_rows as few}
 use Rattle.cubes.specs.Expressions.{rows_of}
 use Rattle.cubes.specs.Powers.{power}
 use Rattle.cubes.specs.Rows.{as_row, as_rows, divided_rows, no_row, powers_at}
@@ -32,7 +33,7 @@ few_rows t e = go t.expressions e
   where
     go : (xs : List Expression) (k : ℕ) → length (get_or (map rows_of xs) k []) ≤ 8
     go [] k = omega arith
-    go (x ∷ xs) zero = omega (arith, length-take x.len x.rows, x.few)
+    go (x ∷ xs) zero = few x
     go (x ∷ xs) (suc k) = go xs k
 
 -- one expression more

@@ -1,6 +1,7 @@
 use Rattle.std.proofs.Common.{refl}
 use Rattle.cubes.specs.Powers.{power}
-use Rattle.kernels.proofs.Beginnings.{bare, begins, few_rows}
+use Rattle.cubes.proofs.Made.{few_rows}
+use Rattle.kernels.proofs.Beginnings.{bare, begins}
 use Rattle.kernels.proofs.search.begin.Goals as goal
 
 pub returns-then-not-has_pair : goal.returns-then-not-has_pair
