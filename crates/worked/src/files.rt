@@ -3,6 +3,7 @@ use sheet_file::{copy_file, read, write};
 use std::test::Fail;
 
 // A byte changed and the length, the places of the buffer, and the refusal's number and byte.
+// No names at the fields: a case stays one line of the table.
 struct Case(usize, u8, usize, usize, u8, usize);
 
 const CASES: [Case; 24] = [
@@ -37,14 +38,12 @@ fn refusals(rt: HostRuntime) -> Result<(), Fail> {
     for case in &CASES {
         let Case(at, value, len, room, number, place) = case;
         let bytes = damaged(rt.alloc(), *at, *value, *len)?;
-        match read(&bytes, marked(rt.alloc(), *room)?) {
-            Ok(_) => return Err(Fail::new("accepted")),
-            Err(refused) => {
-                assert_eq!(rt; refused.why.number(), *number);
-                assert_eq!(rt; refused.place, *place);
-                assert!(rt; is_marked(&refused.buffer, *room));
-            }
-        }
+        let Err(refused) = read(&bytes, marked(rt.alloc(), *room)?) else {
+            return Err(Fail::new("accepted"));
+        };
+        assert_eq!(rt; u8::from(refused.why), *number);
+        assert_eq!(rt; refused.place, *place);
+        assert!(rt; is_marked(&refused.buffer, *room));
     }
     Ok(())
 }
@@ -55,10 +54,7 @@ fn written_again(rt: HostRuntime) -> Result<(), Fail> {
         return Err(Fail::new("refused"));
     };
     let mut short = [9u8; 66];
-    match write(&sheet, &mut short) {
-        Ok(_) => return Err(Fail::new("written")),
-        Err(why) => assert_eq!(rt; why.number(), 17),
-    }
+    assert!(rt; write(&sheet, &mut short).map_err(u8::from) == Err(17));
     assert!(rt; short == [9u8; 66]);
     let mut out = [9u8; 70];
     let Ok(end) = write(&sheet, &mut out) else {
@@ -71,10 +67,7 @@ fn written_again(rt: HostRuntime) -> Result<(), Fail> {
     assert!(rt; buffer.len() == 6);
     assert!(rt; is_marked(&buffer.as_slice()[4..6], 2));
     let mut again = [9u8; 67];
-    match copy_file(&FILE, marked(rt.alloc(), 4)?, &mut again) {
-        Ok(n) => assert_eq!(rt; n, 67),
-        Err(_) => return Err(Fail::new("not copied")),
-    }
+    assert!(rt; copy_file(&FILE, marked(rt.alloc(), 4)?, &mut again) == Ok(67));
     assert!(rt; again == FILE);
     Ok(())
 }

@@ -31,9 +31,5 @@ pub fn marked(heap: Global, n: usize) -> Result<Vec<Step>, AllocError> {
 
 // Whether a buffer still has so many marks and nothing else.
 pub fn is_marked(buffer: &[Step], n: usize) -> bool {
-    let mut all = buffer.len() == n;
-    for step in buffer {
-        all = all && *step == MARK;
-    }
-    all
+    buffer.len() == n && buffer.iter().all(|step| *step == MARK)
 }

@@ -5,18 +5,12 @@ use std::test::Fail;
 #[test]
 fn numerals(rt: HostRuntime) -> Result<(), Fail> {
     let mut numerals = Numerals::none();
-    match numerals.push(1) {
-        Ok(()) => return Err(Fail::new("taken")),
-        Err(why) => assert_eq!(rt; why.number(), 20),
-    }
+    assert!(rt; numerals.push(1).map_err(u8::from) == Err(20));
     assert_eq!(rt; numerals.count(), 0);
     for n in 2..10u16 {
         assert!(rt; numerals.push(n).is_ok());
     }
-    match numerals.push(10) {
-        Ok(()) => return Err(Fail::new("taken")),
-        Err(why) => assert_eq!(rt; why.number(), 18),
-    }
+    assert!(rt; numerals.push(10).map_err(u8::from) == Err(18));
     assert!(rt; numerals.as_slice() == [2, 3, 4, 5, 6, 7, 8, 9].as_slice());
     Ok(())
 }
@@ -31,18 +25,17 @@ fn refused(
 ) -> Result<(), Fail> {
     let mut outputs = [Operand::Zero; 16];
     outputs[15] = output;
-    match Sheet::make(Numerals::none(), marked(rt.alloc(), room)?, used, outputs) {
-        Ok(_) => Err(Fail::new("made")),
-        Err(refused) => {
-            if refused.why.number() != number {
-                return Err(Fail::new("another number"));
-            }
-            if !is_marked(&refused.buffer, room) {
-                return Err(Fail::new("another buffer"));
-            }
-            Ok(())
-        }
+    let buffer = marked(rt.alloc(), room)?;
+    let Err(refused) = Sheet::make(Numerals::none(), buffer, used, outputs) else {
+        return Err(Fail::new("made"));
+    };
+    if u8::from(refused.why) != number {
+        return Err(Fail::new("another number"));
     }
+    if !is_marked(&refused.buffer, room) {
+        return Err(Fail::new("another buffer"));
+    }
+    Ok(())
 }
 
 #[test]
@@ -51,17 +44,11 @@ fn making(rt: HostRuntime) -> Result<(), Fail> {
     refused(&rt, 2, 3, Operand::Zero, 19)?;
     refused(&rt, 3, 3, Operand::ResultOf(3), 22)?;
     refused(&rt, 3, 3, Operand::Numeral(0), 22)?;
-    match Sheet::make(
-        Numerals::none(),
-        marked(rt.alloc(), 3)?,
-        2,
-        [Operand::ResultOf(1); 16],
-    ) {
-        Ok(sheet) => {
-            assert_eq!(rt; sheet.steps().len(), 2);
-            assert_eq!(rt; sheet.counts().negations, 2);
-            Ok(())
-        }
-        Err(_) => Err(Fail::new("refused")),
-    }
+    let outputs = [Operand::ResultOf(1); 16];
+    let Ok(sheet) = Sheet::make(Numerals::none(), marked(rt.alloc(), 3)?, 2, outputs) else {
+        return Err(Fail::new("refused"));
+    };
+    assert_eq!(rt; sheet.steps().len(), 2);
+    assert_eq!(rt; sheet.counts().negations, 2);
+    Ok(())
 }
