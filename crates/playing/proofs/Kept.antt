@@ -10,7 +10,7 @@ use Rattle.sheet.specs.declared.step.Step.{Step}
 use Rattle.sheet.specs.Counting.{adds, how_many, multiplies, negates}
 use Rattle.sheet.specs.Parts.{sheet_outputs, sheet_steps}
 use Rattle.sheet.specs.Values.{StepValues, operand_value}
-use Rattle.sheet.proofs.Rules.{length_numerals}
+use Rattle.sheet.proofs.Rules.{few_numerals}
 use Rattle.tablet.specs.Evaluating.{Worth}
 use Rattle.emission.specs.Promises.{steps_of}
 use Rattle.emission.specs.Steps.{emit_outputs}
@@ -85,7 +85,7 @@ module _ {S R : Type 0} (c : CommRing S) (meaning : R → S) (measures : List R)
         subst (λ (steps : List Step). StepValues c s.numerals ms steps (length steps) v.cells) made.steps
         (subst (λ (ns : List ℕ). StepValues c ns ms (sheet_steps sheet) (length (sheet_steps sheet)) v.cells) made.numerals v.steps)
         in
-        let held : length s.numerals ≤ 8 = omega (arith, length_numerals t'.numerals, t'.numerals.few) in
+        let held : length s.numerals ≤ 8 = omega (arith, few_numerals t'.numerals) in
         let e = emit_values c s (order_of t') leads.onward.sound.closed leads.onward.sound.ordered held ms v.cells law in
         let kept = presses_keep_worth c (style_of t) s leads.m leads.a leads.onward.presses (λ n. get_or ms n c.zero) e.value e.fits in
         let like = like_kept (written (accepted offered)) (style_of t) opened.rows c (λ n. get_or ms n c.zero) e.value kept.fits in
