@@ -37,7 +37,7 @@ fn tell(rt: &HostRuntime, error: EvaluationError, measures: &[String]) -> anyhow
             wrong_measure(rt, at, word)
         }
         EvaluationError::Refused { why, place } => {
-            let number = why.number();
+            let number = u8::from(why);
             println!(rt; "refused {number} {place}")?;
             Ok(ExitCode::FAILURE)
         }
