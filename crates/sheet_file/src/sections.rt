@@ -12,6 +12,8 @@ use crate::layout::Layout;
 use crate::section::Section;
 use sheet::{Numerals, Operand, Refusal, Step};
 
+// The sections' readers take entries off by a slice pattern (a rule of the project), and so count their places by hand.
+
 // The numerals of a section, or the first below 2.
 pub(crate) fn read_numerals(section: Section) -> Result<Numerals, Fault>
     requires few { length section.bytes.now ≤ 16 }

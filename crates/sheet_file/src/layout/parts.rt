@@ -7,7 +7,7 @@ use crate::layout::Layout;
 use crate::section::Section;
 use sheet::Scope;
 
-// A part of a file: a slice from an offset to offset plus length.
+// A part of a file is cut out as a slice from its offset to offset plus length: a rule of the project.
 fn section(file: &[u8], start: usize, len: usize) -> Section<'_>
     requires { start + len ≤ length file.now }
     ensures bytes { result.bytes.now ≡ between start (start + len) file.now }
