@@ -2,7 +2,7 @@
 use Rattle.std.proofs.Common.{◌≡◌, ℕ, zero, suc, ◌+◌, ◌-◌, ◌<◌, ◌≤◌, List, [], ◌∷◌, ◌++◌, length, get_or, take, drop, sym, refl, ap, ◌∙◌, subst, append_assoc, arith}
 use borrow.Rule.Slice.PartMut.{put_mid}
 use Rattle.std.specs.List.{flat_map}
-use Rattle.std.proofs.lemmas.List.{length-append, drop-drop, take_more, take_all, flat_map_more}
+use Rattle.std.proofs.lemmas.List.{length-append, drop-drop, take_more, flat_map_more}
 use Rattle.std.proofs.lemmas.Slice.{take-put_mid, drop-put_mid}
 use Rattle.sheet_file.specs.Writing.{Puts}
 
@@ -38,10 +38,6 @@ puts_more {X} f items n d {out} {mid} {last} {at} {m} {e} within p q =
 
 pub puts_same : {out last : List ℕ} {at e : ℕ} (xs ys : List ℕ) → xs ≡ ys → Puts out at xs e last → Puts out at ys e last
 puts_same {out} {last} {at} {e} xs ys same p = subst (λ (bs : List ℕ). Puts out at bs e last) same p
-
--- all items of a row
-pub puts_all : {X : Type 0} (f : X → List ℕ) (items : List X) (n : ℕ) {out last : List ℕ} {at e : ℕ} → length items ≤ n → Puts out at (flat_map f (take n items)) e last → Puts out at (flat_map f items) e last
-puts_all f items n all p = puts_same _ _ (ap (flat_map f) (take_all n items all)) p
 
 -- what stands before an item and its own bytes are no longer than the row
 pub row_part : {X : Type 0} (f : X → List ℕ) (items : List X) (n : ℕ) (d : X) → n < length items → length (flat_map f (take n items)) + length (f (get_or items n d)) ≤ length (flat_map f items)

@@ -6,7 +6,6 @@ use Rattle.std.proofs.lemmas.Bool.{cases_lt, lt-ltb, le-ltb, cond-true, cond-fal
 use Rattle.std.proofs.lemmas.List.{take_more_set, flat_map_more, get_or-set_same, get_or-set_other, drop-set-lt, drop-drop, drop_at, take_at, length-append, append-nil, nil_from_length}
 use Rattle.sheet.specs.declared.refusal.Refusal.{Refusal}
 use Rattle.sheet.specs.Numerals.{push_answer}
-use Rattle.sheet_file.specs.Bytes.{word_bytes}
 use Rattle.sheet_file.specs.Reading.{entry, FirstBad, AllGood, NumeralEntry}
 
 -- five bytes and the rest; two bytes and the rest
@@ -100,13 +99,7 @@ behind_more n buffer start x same =
     let lt : n < n + 1 = omega arith in
     drop-set-lt (n + 1) buffer n x lt ∙ sym (drop-drop 1 n buffer) ∙ ap (drop 1) same ∙ drop-drop 1 n start
 
--- the bytes of a number, and no numeral where the number is below 2
-pub number_bytes : (n low high : ℕ) → low < 256 → n ≡ low + 256 * high → word_bytes n ≡ low ∷ high ∷ []
-number_bytes n low high h q =
-    let a : n % 256 ≡ low = ap (λ (k : ℕ). k % 256) q ∙ omega arith in
-    let b : n / 256 ≡ high = ap (λ (k : ℕ). k / 256) q ∙ omega arith in
-    λ i. a i ∷ b i ∷ []
-
+-- no numeral has the bytes of a number below 2
 pub no_numeral : (low high n : ℕ) → n ≡ low + 256 * high → n < 2 → NumeralEntry 0 (low ∷ high ∷ []) → ⊥
 no_numeral low high n q small (m, large, same) =
     let a : m % 256 ≡ low = ap (λ (ys : List ℕ). get_or ys 0 0) same in
