@@ -1,13 +1,14 @@
 // How the values of the ring kinds are written on the command line, and how they are printed.
 #![tactic(auto)]
 
-ghost use Rattle.std.specs.Prelude.{◌≡◌, ℕ, ◌^◌, List, decimal, MatchOption, Some, refl};
+ghost use Rattle.std.specs.Prelude.{◌≡◌, ℕ, ◌^◌, List, ◌++◌, string_bytes, decimal, MatchOption, MatchResult, Some, refl};
 ghost use Rattle.spelling.specs.Texts.{Signed, Paired, spaced};
 ghost use Rattle.spelling.specs.Spellings.{signed_one, paired_one};
 ghost use Rattle.spelling.specs.WheelSpelledLemmas.{same_wheel};
 
 use numbers::signed;
 use ring::{Pair, Ring, Wheel, Word};
+use std::alloc::AllocError;
 use std::fmt::Display;
 
 mod numbers;
@@ -28,6 +29,15 @@ pub trait Spelled: Ring + Display {
 
     // a value is printed as those bytes
     ghost shown: { (x : Self) → Self.output x ≡ Some (shows x) };
+
+    // Adds the printed value to the text, or leaves the text as it was.
+    final fn print(self, out: &mut String) -> Result<(), AllocError>
+        ensures { MatchResult result (λ _. string_bytes out.new ≡ string_bytes out.old ++ shows self) (λ _. string_bytes out.new ≡ string_bytes out.old) }
+    {
+        let value = self;
+        let text = format!(in *out.allocator(); "{value}")?;
+        out.push_str(text.as_str())
+    }
 }
 
 impl Spelled for Word {
