@@ -1,12 +1,14 @@
 -- The best of those met so far.
-use Rattle.std.proofs.Common.{◌≡◌, ℕ, ◌+◌, ◌*◌, ◌%◌, ◌^◌, ◌<◌, ◌≤◌, ◌⊎◌, List, [], length, get_or, Some, None, filter, Option, sym, refl, ap, ◌∙◌, subst, inl, inr, arith}
+use Rattle.std.proofs.Common.{◌≡◌, ℕ, ◌+◌, ◌*◌, ◌%◌, ◌^◌, ◌<◌, ◌≤◌, ◌⊎◌, List, [], length, Some, None, filter, Option, sym, refl, ap, ◌∙◌, subst, subst₂, inl, inr, slice_get, arith}
 use Rattle.std.proofs.lemmas.Nat.{one_shl}
 use Rattle.std.proofs.lemmas.List.{get_or-map}
+use Rattle.std.proofs.lemmas.Option.{get_or_from_slice_get, slice_get_within}
 use Rattle.std.proofs.lemmas.Bool.{cases_lt, cases_eq}
 use Rattle.choosing.specs.declared.card.Card.{Card}
 use Rattle.choosing.specs.declared.choice.Choice.{Choice}
 use Rattle.choosing.specs.declared.column.Column.{Column}
-use Rattle.choosing.specs.Sets.{listed, chosen}
+use Rattle.few.specs.Listed.{listed}
+use Rattle.choosing.specs.Sets.{chosen}
 use Rattle.choosing.specs.Near.{near_to}
 use Rattle.choosing.specs.Taken.{taken, none}
 use Rattle.choosing.proofs.Nears.{taken_near}
@@ -14,67 +16,63 @@ use Rattle.choosing.specs.Savings.{saved_muls, saved_adds}
 use Rattle.choosing.specs.Best.{columns_at, set_at, taken_at, Candidate, value, Earlier, Tells}
 use Rattle.choosing.specs.Progress.{Weighed, worth_of, least, Leads, SoFar}
 
--- cs are the columns of kernel p, as the code has them, and ds those that s names
-module _ (xs : List Card) (p s : ℕ) (cs ds : List Column) (d : Card) (h : p < length xs) (is : cs ≡ listed (get_or xs p d).columns)
-    (few : length cs ≤ 8) (picked : ds ≡ chosen s cs) where
-  columns_is : cs ≡ columns_at xs p
-  columns_is = is ∙ sym (get_or-map (λ y. listed y.columns) xs p d [] h)
+-- card is kernel p, and n how many columns it has
+module _ (xs : List Card) (p : ℕ) (card : Card) (n : ℕ) (at : slice_get xs p ≡ Some card) (many : n ≡ length (listed card.columns)) (few : n ≤ 8) where
+  within : p < length xs
+  within = slice_get_within xs p card at
 
-  set_is : ds ≡ set_at xs p s
-  set_is = picked ∙ ap (chosen s) columns_is
+  columns_is : listed card.columns ≡ columns_at xs p
+  columns_is =
+      sym (get_or-map (λ y. listed y.columns) xs p card [] within ∙ ap (λ y. listed y.columns) (get_or_from_slice_get xs p card card at))
 
-  pub candidate_not : length ds < 2 → Candidate xs p s → ⊥
-  candidate_not lt c = omega (arith, ap length set_is, c.two)
+  pub end_is : (1 * 2 ^ n) % 2 ^ 64 ≡ 2 ^ length (columns_at xs p)
+  end_is = one_shl n 64 (omega arith) ∙ ap (λ k. 2 ^ k) (many ∙ ap length columns_is)
 
-  end_is : (1 * 2 ^ length cs) % 2 ^ 64 ≡ 2 ^ length (columns_at xs p)
-  end_is = one_shl (length cs) 64 (omega arith) ∙ ap (λ ys. 2 ^ length ys) columns_is
+  -- ds are those that s names
+  module _ (s : ℕ) (ds : List Column) (picked : ds ≡ chosen s (listed card.columns)) where
+    set_is : ds ≡ set_at xs p s
+    set_is = picked ∙ ap (chosen s) columns_is
 
-  pub candidate_past : (1 * 2 ^ length cs) % 2 ^ 64 ≤ s → Candidate xs p s → ⊥
-  candidate_past h c = omega (arith, end_is, c.number)
+    pub candidate_not : length ds < 2 → Candidate xs p s → ⊥
+    candidate_not lt c = omega (arith, ap length set_is, c.two)
 
-  module _ (es : List Column) (slice : es ≡ ds) where
+    pub candidate_past : (1 * 2 ^ n) % 2 ^ 64 ≤ s → Candidate xs p s → ⊥
+    candidate_past h c = omega (arith, end_is, c.number)
+
     -- the kernels taken are those taken among all, or among the near ones
-    pub all_taken : taken es none xs ≡ taken_at xs p s
-    all_taken = ap (λ l. taken l none xs) (slice ∙ set_is)
+    pub all_taken : taken ds none xs ≡ taken_at xs p s
+    all_taken = ap (λ l. taken l none xs) set_is
 
-    pub near_taken : 2 ≤ length ds → (ns : List Card) → ns ≡ filter (near_to cs) xs → taken es none ns ≡ taken_at xs p s
+    pub near_taken : 2 ≤ length ds → (ns : List Card) → ns ≡ filter (near_to (listed card.columns)) xs → taken ds none ns ≡ taken_at xs p s
     near_taken two ns near =
-        ap (λ l. taken es none l) near
-        ∙ ap (λ l. taken l none (filter (near_to cs) xs)) (slice ∙ picked)
-        ∙ taken_near cs s xs (omega (arith, ap length picked))
+        ap (taken ds none) near
+        ∙ ap (λ l. taken l none (filter (near_to (listed card.columns)) xs)) picked
+        ∙ taken_near (listed card.columns) s xs (omega (arith, ap length picked))
         ∙ ap (λ l. taken (chosen s l) none xs) columns_is
 
     -- so what is weighed among them is told of all
-    pub tells_from : s < (1 * 2 ^ length cs) % 2 ^ 64 → 2 ≤ length ds → (ns : List Card) → taken es none ns ≡ taken_at xs p s
-        → (x : Choice) → (x.kernel ≡ p) × (x.set ≡ s) → Weighed ns es x → Tells xs x
-    tells_from lt two ns all x at weighed =
+    pub tells_from : s < (1 * 2 ^ n) % 2 ^ 64 → 2 ≤ length ds → (ns : List Card) → taken ds none ns ≡ taken_at xs p s
+        → (x : Choice) → (x.kernel ≡ p) × (x.set ≡ s) → Weighed ns ds x → Tells xs x
+    tells_from lt two ns all x is weighed =
         let Told : List Column → List Card → Type 0 = λ set ts.
         (x.rows ≡ length ts) × (x.columns ≡ length set) × (x.multiplications ≡ saved_muls set ts) × (x.additions ≡ saved_adds set ts) in
         let told : Told (set_at xs p s) (taken_at xs p s) =
         subst (Told (set_at xs p s)) all
         (
-        subst (λ l. Told l (taken es none ns)) (slice ∙ set_is)
+        subst (λ l. Told l (taken ds none ns)) set_is
         (weighed.rows, weighed.columns, weighed.multiplications, weighed.additions)
         ) in
         let here : Told (set_at xs x.kernel x.set) (taken_at xs x.kernel x.set) =
-        subst (λ n. Told (set_at xs n x.set) (taken_at xs n x.set)) (sym at.0)
-        (subst (λ n. Told (set_at xs p n) (taken_at xs p n)) (sym at.1) told) in
+        subst₂ (λ q t. Told (set_at xs q t) (taken_at xs q t)) (sym is.0) (sym is.1) told in
         record {
           candidate =
-              subst (λ n. Candidate xs n x.set) (sym at.0)
-              (
-              subst (λ n. Candidate xs p n) (sym at.1)
-              (record { kernel = h; number = omega (arith, end_is); two = omega (arith, ap length set_is) })
-              );
+              subst₂ (Candidate xs) (sym is.0) (sym is.1)
+              (record { kernel = within; number = omega (arith, end_is); two = omega (arith, ap length set_is) });
           rows = here.0;
           columns = here.1;
           multiplications = here.2;
           additions = here.3;
         }
-
-pub end_at : (xs : List Card) (p : ℕ) (cs : List Column) (d : Card) → p < length xs → cs ≡ listed (get_or xs p d).columns → length cs ≤ 8
-    → (1 * 2 ^ length cs) % 2 ^ 64 ≡ 2 ^ length (columns_at xs p)
-end_at xs p cs d h is few = end_is xs p 0 cs (chosen 0 cs) d h is few refl
 
 earlier_more : (q t p s : ℕ) → Earlier q t p (s + 1) → Earlier q t p s ⊎ ((q ≡ p) × (t ≡ s))
 earlier_more q t p s (inl h) = inl (inl h)

@@ -1,36 +1,14 @@
 -- A walk through the near kernels alone takes the same ones.
-use Rattle.std.proofs.Common.{◌≡◌, ℕ, ◌+◌, ◌/◌, ◌%◌, ◌<◌, ◌≤◌, Bool, true, false, cond, eqb, List, [], ◌∷◌, ◌++◌, length, get_or, take, is_some, Some, None, count_by, filter, Option, sym, refl, ap, ◌∙◌, inl, inr, arith}
-use Rattle.std.proofs.lemmas.List.{append-nil}
-use Rattle.std.proofs.lemmas.List.Elements.{filter_more}
+use Rattle.std.proofs.Common.{◌≡◌, ℕ, ◌/◌, ◌%◌, ◌≤◌, Bool, true, false, cond, eqb, List, [], ◌∷◌, length, is_some, Some, None, count_by, filter, Option, sym, refl, ap, ◌∙◌, inl, inr, arith}
 use Rattle.std.proofs.lemmas.List.Sums.{sum_by-cons}
 use Rattle.std.proofs.lemmas.Bool.{cases_Bool, cond-true, cond-false, cond_both, and_parts, leb-false, false≢true}
 use Rattle.choosing.specs.declared.card.Card.{Card}
 use Rattle.choosing.specs.declared.column.Column.{Column}
-use Rattle.choosing.specs.Sets.{listed, chosen}
+use Rattle.few.specs.Listed.{listed}
+use Rattle.choosing.specs.Sets.{chosen}
 use Rattle.choosing.specs.Taken.{row_of, clear, fits, cover, taken, none}
 use Rattle.choosing.specs.Near.{has, shared, near_to}
 use Rattle.choosing.proofs.Walks.{taken_no}
-
--- ---- gathering
-
-module _ (p : Card → Bool) (xs ys : List Card) (i : ℕ) (x : Card) (h : i < length xs) (is : x ≡ get_or xs i x)
-    (so_far : ys ≡ filter p (take i xs)) where
-  more : filter p (take (i + 1) xs) ≡ filter p (take i xs) ++ cond (p x) (x ∷ []) []
-  more = filter_more p xs i x h ∙ ap (λ y. filter p (take i xs) ++ cond (p y) (y ∷ []) []) (sym is)
-
-  pub kept_yes : p x ≡ true → ys ++ x ∷ [] ≡ filter p (take (i + 1) xs)
-  kept_yes e =
-      ap (λ l. l ++ x ∷ []) so_far
-      ∙ ap (λ l. filter p (take i xs) ++ l) (sym (cond-true (p x) (x ∷ []) [] e))
-      ∙ sym more
-
-  pub kept_no : p x ≡ false → ys ≡ filter p (take (i + 1) xs)
-  kept_no e =
-      so_far ∙ sym (append-nil (filter p (take i xs)))
-      ∙ ap (λ l. filter p (take i xs) ++ l) (sym (cond-false (p x) (x ∷ []) [] e))
-      ∙ sym more
-
--- ---- nothing is lost
 
 taken_kept : (keep : Card → Bool) (set : List Column)
     → ((over : ℕ → Bool) (x : Card) → keep x ≡ false → fits over (listed x.columns) set ≡ false)

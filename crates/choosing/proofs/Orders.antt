@@ -5,7 +5,7 @@ use Rattle.std.proofs.lemmas.Bool.{cases_Bool, cond-true, cond-false, and_parts,
 use Rattle.std.specs.List.{AllByRecursion}
 use Rattle.choosing.specs.declared.card.Card.{Card}
 use Rattle.choosing.specs.declared.column.Column.{Column}
-use Rattle.choosing.specs.Sets.{listed}
+use Rattle.few.specs.Listed.{listed}
 use Rattle.choosing.specs.Taken.{row_of, clear, fits, with_row, cover, taken, none}
 use Rattle.choosing.specs.Laws.{Behind, CanBeTaken, TakenInOrder}
 use Rattle.choosing.proofs.Walks.{taken_yes, taken_no}

@@ -6,7 +6,7 @@ use Rattle.std.proofs.lemmas.Bool.{cases_Bool, cond-true, cond-false}
 use Rattle.choosing.specs.declared.card.Card.{Card}
 use Rattle.choosing.specs.declared.column.Column.{Column}
 use Rattle.choosing.specs.declared.tally.Tally.{Tally}
-use Rattle.choosing.specs.Sets.{listed}
+use Rattle.few.specs.Listed.{listed}
 use Rattle.choosing.specs.Taken.{covers, fits, cover, taken}
 use Rattle.choosing.specs.Savings.{spent, muls_before}
 use Rattle.choosing.specs.Tallies.{Looked, Onward, Tallied}

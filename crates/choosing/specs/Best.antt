@@ -4,7 +4,8 @@ use Rattle.choosing.specs.declared.card.Card.{Card}
 use Rattle.choosing.specs.declared.choice.Choice.{Choice}
 use Rattle.choosing.specs.declared.column.Column.{Column}
 use Rattle.choosing.specs.Savings.{saved_muls, saved_adds, saving}
-use Rattle.choosing.specs.Sets.{listed, chosen}
+use Rattle.few.specs.Listed.{listed}
+use Rattle.choosing.specs.Sets.{chosen}
 use Rattle.choosing.specs.Taken.{taken, none}
 
 -- the columns of kernel p

@@ -2,7 +2,7 @@
 use Rattle.std.specs.Prelude.{ℕ, Bool, List, is_some, count_by, nat_le}
 use Rattle.choosing.specs.declared.card.Card.{Card}
 use Rattle.choosing.specs.declared.column.Column.{Column}
-use Rattle.choosing.specs.Sets.{listed}
+use Rattle.few.specs.Listed.{listed}
 use Rattle.choosing.specs.Taken.{row_of}
 
 -- the kernel with the columns xs has the column c

@@ -1,11 +1,6 @@
 -- Sets of columns.
-use Rattle.std.specs.Prelude.{ℕ, ◌/◌, ◌%◌, cond, List, [], ◌∷◌, take, ◌==◌}
+use Rattle.std.specs.Prelude.{ℕ, ◌/◌, ◌%◌, cond, List, [], ◌∷◌, ◌==◌}
 use Rattle.choosing.specs.declared.column.Column.{Column}
-use Rattle.choosing.specs.declared.columns.Columns.{Columns}
-
--- the columns, in their order
-abbrev pub listed : Columns → List Column
-listed xs = take xs.len xs.items
 
 -- the columns that the binary number s names: the first counts 1, the second 2, the third 4
 abbrev pub chosen : ℕ → List Column → List Column

@@ -1,9 +1,10 @@
 -- Which kernels are taken for a set of columns.
-use Rattle.std.specs.Prelude.{ℕ, Bool, true, false, cond, not, ◌&&◌, ◌||◌, List, [], ◌∷◌, Some, None, Option, ◌==◌, slice_index_or}
+use Rattle.std.specs.Prelude.{ℕ, Bool, false, cond, not, ◌||◌, List, [], ◌∷◌, Some, None, Option, ◌==◌, slice_index_or}
+use Rattle.std.specs.List.{list_all}
 use Rattle.choosing.specs.declared.card.Card.{Card}
 use Rattle.choosing.specs.declared.column.Column.{Column}
 use Rattle.choosing.specs.declared.covered.Covered.{Covered}
-use Rattle.choosing.specs.Sets.{listed}
+use Rattle.few.specs.Listed.{listed}
 
 -- row q is covered
 abbrev pub covers : Covered → ℕ → Bool
@@ -21,8 +22,7 @@ clear over (Some r) = not (over r)
 
 -- the kernel with the columns xs has every column of the set, and no row behind them is covered
 abbrev pub fits : (ℕ → Bool) → List Column → List Column → Bool
-fits over xs [] = true
-fits over xs (c ∷ cs) = clear over (row_of c.name xs) && fits over xs cs
+fits over xs set = list_all (λ c. clear over (row_of c.name xs)) set
 
 -- covered, and the row as well
 abbrev pub with_row : (ℕ → Bool) → Option ℕ → ℕ → Bool

@@ -6,7 +6,7 @@ pub(crate) use calls::better;
 
 // A set of columns: the place of its kernel in the list, and the set as a binary number over the kernel's columns;
 // how many kernels are taken for it, how many columns it has, and what it saves.
-#[derive(Clone, Copy)]
+#[derive(Clone, Copy, PartialEq, Eq, Debug)]
 pub struct Choice {
     pub kernel: usize,
     pub set: usize,

@@ -2,7 +2,7 @@
 //
 // Two columns have the same number if they are the same signed cube, and only then.
 // Rows are counted through the style, eight to an expression.
-#[derive(Clone, Copy)]
+#[derive(Clone, Copy, PartialEq, Eq, Debug, Default)]
 pub struct Column {
     pub name: usize,
     pub row: u8,

@@ -1,14 +1,5 @@
-ghost use Rattle.std.specs.Prelude.{◌≡◌, ◌≤◌, length};
-
 use crate::column::Column;
+use few::Few;
 
-mod calls;
-
-// At most eight columns.
-#[derive(Clone, Copy)]
-pub struct Columns {
-    len: usize,
-    items: [Column; 8],
-    ghost few: { len ≤ 8 },
-    ghost eight: { length items ≡ 8 },
-}
+// At most eight columns: a kernel has one for each row of an expression at most.
+pub type Columns = Few<Column, 8>;

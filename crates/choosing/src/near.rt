@@ -1,8 +1,9 @@
 ghost use Rattle.std.specs.Prelude.{◌≡◌, IfOk, filter};
+ghost use Rattle.few.specs.Listed.{listed};
 ghost use Rattle.choosing.specs.Near.{shared, near_to};
 
 use crate::card::Card;
-use crate::column::Column;
+use crate::columns::Columns;
 use crate::walk::find;
 use std::alloc::{AllocError, Global};
 
@@ -10,31 +11,27 @@ use std::alloc::{AllocError, Global};
 const SHARED: usize = 2;
 
 // How many of the columns the kernel has.
-fn count_shared(kernel: &[Column], columns: &[Column]) -> usize
-    ensures { result ≡ shared kernel.now columns.now }
+fn count_shared(kernel: &Columns, columns: &Columns) -> usize
+    ensures { result ≡ shared (listed kernel.now) (listed columns.now) }
 {
-    let mut n = 0usize;
-    for c in columns {
-        if find(kernel, c.name).is_some() {
-            n += 1;
-        }
-    }
-    n
+    columns
+        .as_slice()
+        .iter()
+        .filter(|c| find(kernel, c.name).is_some())
+        .count()
 }
 
 // The kernels that have two of the columns or more, in their order.
 pub(crate) fn gather(
     cards: &[Card],
-    columns: &[Column],
+    columns: &Columns,
     heap: Global,
 ) -> Result<Vec<Card>, AllocError>
-    ensures { IfOk result (λ near. near.items ≡ filter (near_to columns.now) cards.now) }
+    ensures { IfOk result (λ near. near.items ≡ filter (near_to (listed columns.now)) cards.now) }
 {
-    let mut near = Vec::new(heap);
-    for card in cards {
-        if count_shared(card.columns.as_slice(), columns) >= SHARED {
-            near.push(*card)?;
-        }
-    }
-    Ok(near)
+    cards
+        .iter()
+        .filter(|card| count_shared(&card.columns, columns) >= SHARED)
+        .copied()
+        .collect(heap)
 }

@@ -1,10 +1,11 @@
-ghost use Rattle.std.specs.Prelude.{◌≡◌, ◌+◌, ◌<◌, ◌≤◌, length, IfOk, Some, None};
+ghost use Rattle.std.specs.Prelude.{◌≡◌, ◌+◌, IfOk, Some, None, slice_get};
+ghost use Rattle.few.specs.Listed.{listed};
 ghost use Rattle.choosing.specs.Best.{Candidate, Tells, Chosen, NoGain};
 ghost use Rattle.choosing.specs.Progress.{Weighed, SoFar};
 
 use crate::card::Card;
 use crate::choice::{Choice, better};
-use crate::column::Column;
+use crate::columns::Columns;
 use crate::near::gather;
 use crate::tally::{multiplications, walk};
 use crate::walk::pick;
@@ -14,9 +15,8 @@ use std::alloc::{AllocError, Global};
 const LEAST: usize = 2;
 
 // What the set, whose columns are `picked`, saves among the kernels.
-fn weigh(cards: &[Card], kernel: usize, set: usize, picked: &[Column]) -> Choice
-    requires { length picked.now ≤ 8 }
-    ensures weighed { Weighed cards.now picked.now result }
+fn weigh(cards: &[Card], kernel: usize, set: usize, picked: &Columns) -> Choice
+    ensures weighed { Weighed cards.now (listed picked.now) result }
     ensures at { (result.kernel ≡ kernel) × (result.set ≡ set) }
 {
     let tally = walk(cards, picked);
@@ -37,43 +37,40 @@ fn weigh(cards: &[Card], kernel: usize, set: usize, picked: &[Column]) -> Choice
 pub fn weigh_set(cards: &[Card], kernel: usize, set: usize) -> Option<Choice>
     ensures { elim result [ Some x ↦ Tells cards.now x × ((x.kernel ≡ kernel) × (x.set ≡ set)) | None ↦ (Candidate cards.now kernel set → ⊥) ] }
 {
-    if kernel >= cards.len() {
+    let card = cards.get(kernel)?;
+    if set >= 1usize << card.columns.len() {
         return None;
     }
-    let columns = cards[kernel].columns.as_slice();
-    if set >= 1usize << columns.len() {
-        return None;
-    }
-    let picked = pick(columns, set);
+    let picked = pick(&card.columns, set);
     if picked.len() < LEAST {
         return None;
     }
-    Some(weigh(cards, kernel, set, picked.as_slice()))
+    Some(weigh(cards, kernel, set, &picked))
 }
 
-// The better of `best` and the sets of one kernel.
+// The better of `best` and the sets of one kernel, `card`.
 //
 // The walks go through the kernels that have two of its columns or more: no other is taken for such a set.
 fn best_of_kernel(
     cards: &[Card],
     kernel: usize,
+    card: &Card,
     weight: u32,
     best: Option<Choice>,
     heap: Global,
 ) -> Result<Option<Choice>, AllocError>
-    requires within { kernel < length cards.now }
+    requires at { slice_get cards.now kernel ≡ Some card.now }
     requires before { SoFar weight cards.now kernel 0 best }
     ensures { IfOk result (λ o. SoFar weight cards.now (kernel + 1) 0 o) }
 {
-    let columns = cards[kernel].columns.as_slice();
-    let near = gather(cards, columns, heap)?;
+    let near = gather(cards, &card.columns, heap)?;
     let takers = near.as_slice();
-    let end = 1usize << columns.len();
+    let end = 1usize << card.columns.len();
     let mut best = best;
     for set in 0..end {
-        let picked = pick(columns, set);
+        let picked = pick(&card.columns, set);
         if picked.len() >= LEAST {
-            best = better(best, weigh(takers, kernel, set, picked.as_slice()), weight);
+            best = better(best, weigh(takers, kernel, set, &picked), weight);
         }
     }
     Ok(best)
@@ -84,8 +81,8 @@ pub fn choose(cards: &[Card], weight: u32, heap: Global) -> Result<Option<Choice
     ensures { IfOk result (λ o. elim o [ Some x ↦ Chosen weight cards.now x | None ↦ NoGain weight cards.now ]) }
 {
     let mut best = None;
-    for kernel in 0..cards.len() {
-        best = best_of_kernel(cards, kernel, weight, best, heap)?;
+    for (kernel, card) in cards.iter().enumerate() {
+        best = best_of_kernel(cards, kernel, card, weight, best, heap)?;
     }
     Ok(best)
 }

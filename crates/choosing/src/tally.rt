@@ -1,9 +1,11 @@
-ghost use Rattle.std.specs.Prelude.{◌≡◌, ◌+◌, ◌^◌, ◌<◌, ◌≤◌, length};
-ghost use Rattle.choosing.specs.Savings.{spent};
+ghost use Rattle.std.specs.Prelude.{◌≡◌, ◌+◌, ◌^◌, ◌<◌, ◌≤◌};
+ghost use Rattle.few.specs.Listed.{listed};
+ghost use Rattle.choosing.specs.Savings.{muls, spent};
 ghost use Rattle.choosing.specs.Tallies.{Looked, Tallied};
 
 use crate::card::Card;
 use crate::column::Column;
+use crate::columns::Columns;
 use crate::covered::Covered;
 use crate::walk::{cover_set, is_taken};
 
@@ -16,38 +18,45 @@ pub(crate) struct Tally {
     pub after: u128,
 }
 
-// The multiplications of the rows behind the set in a kernel whose co-kernel has this degree.
-pub(crate) fn multiplications(degree: u16, set: &[Column]) -> u128
-    requires { length set.now ≤ 8 }
-    ensures is { result ≡ spent degree set.now }
-    ensures small { result ≤ 2 ^ 20 }
+// The multiplications of the row behind a column in a kernel whose co-kernel has this degree.
+fn row_multiplications(degree: u16, column: &Column) -> u32
+    ensures is { result ≡ muls (degree + column.now.degree) }
+    ensures small { result < 2 ^ 17 }
 {
-    let mut n = 0u32;
-    for c in set {
-        n += (degree as u32 + c.degree as u32).saturating_sub(1);
-    }
-    n as u128
+    (u32::from(degree) + u32::from(column.degree)).saturating_sub(1)
 }
 
-// Takes the kernel, if it can be taken.
-fn look(tally: &mut Tally, card: &Card, set: &[Column])
-    requires short { length set.now ≤ 8 }
-    requires small { (tally.old.rows + 1 < 2 ^ 64) × (tally.old.before < 2 ^ 100) × (tally.old.after < 2 ^ 100) }
-    ensures { Looked set.now card.now tally.old tally.new }
+// The same of the rows behind the set.
+pub(crate) fn multiplications(degree: u16, set: &Columns) -> u128
+    ensures is { result ≡ spent degree (listed set.now) }
+    ensures small { result ≤ 2 ^ 20 }
 {
-    let columns = card.columns.as_slice();
-    if is_taken(columns, set, &tally.covered) {
-        cover_set(columns, set, &mut tally.covered);
-        tally.rows += 1;
-        tally.before += multiplications(card.degree, set);
-        tally.after += card.degree as u128;
+    let sum: u32 = set
+        .as_slice()
+        .iter()
+        .map(move |c| row_multiplications(degree, c))
+        .sum();
+    u128::from(sum)
+}
+
+impl Tally {
+    // Takes the kernel, if it can be taken.
+    fn look(&mut self, card: &Card, set: &Columns)
+        requires { (self.old.rows + 1 < 2 ^ 64) × (self.old.before < 2 ^ 100) × (self.old.after < 2 ^ 100) }
+        ensures { Looked (listed set.now) card.now self.old self.new }
+    {
+        if is_taken(&card.columns, set, &self.covered) {
+            cover_set(&card.columns, set, &mut self.covered);
+            self.rows += 1;
+            self.before += multiplications(card.degree, set);
+            self.after += u128::from(card.degree);
+        }
     }
 }
 
 // Goes through the kernels from the head of the list, and takes those that can be taken.
-pub(crate) fn walk(cards: &[Card], set: &[Column]) -> Tally
-    requires { length set.now ≤ 8 }
-    ensures { Tallied cards.now set.now result }
+pub(crate) fn walk(cards: &[Card], set: &Columns) -> Tally
+    ensures { Tallied cards.now (listed set.now) result }
 {
     let mut tally = Tally {
         covered: Covered::new(),
@@ -56,7 +65,7 @@ pub(crate) fn walk(cards: &[Card], set: &[Column]) -> Tally
         after: 0,
     };
     for card in cards {
-        look(&mut tally, card, set);
+        tally.look(card, set);
     }
     tally
 }

@@ -17,10 +17,7 @@ pub(crate) fn better(best: Option<Choice>, x: Choice, weight: u32) -> Option<Cho
     ensures takes { least weight best < worth_of weight x → result ≡ Some x }
     ensures keeps { worth_of weight x ≤ least weight best → result ≡ best }
 {
-    let least = match best {
-        Some(b) => b.worth(weight),
-        None => 0,
-    };
+    let least = best.map_or(0, |b| b.worth(weight));
     if x.worth(weight) > least {
         Some(x)
     } else {

@@ -1,18 +1,13 @@
-use Rattle.std.proofs.Common.{◌+◌, ap, ◌∙◌, arith}
-use Rattle.std.proofs.lemmas.List.Sums.{sum_by_more}
-use Rattle.std.proofs.lemmas.List.{take_all}
-use Rattle.choosing.proofs.Steps.{blank}
-use Rattle.choosing.specs.Savings.{spent, muls}
+use Rattle.std.proofs.Common.{◌^◌, ◌+◌, ◌<◌, rules, tests, arith}
+use Rattle.std.specs.List.{fold}
+use Rattle.std.proofs.lemmas.Iterator.{YieldsList-from_slice}
+use Rattle.std.proofs.lemmas.Iterator.Adapters.{at_most_from_yields_List, fits_from_length}
 use Rattle.choosing.proofs.tally.multiplications.Goals as goal
 
-pub loop-c-preserved : goal.loop-c-preserved
-loop-c-preserved c = (
-  (omega (arith, sum_by_more (λ x. muls (c.args.degree + x.degree)) c.args.set.now c.loop-c.c-index blank c.loop-c-test.true, c.saturating_sub-n.ensures, c.loop-c.invariant.0)),
-  (omega arith),
-)
-
-pub returns : goal.returns
-returns c = record {
-  is = c.loop-c.invariant.0 ∙ ap (spent c.args.degree) (take_all _ _ c.loop-c-test.false);
-  small = omega arith;
-}
+pub returns-clause-small : goal.returns-clause-small
+returns-clause-small c =
+    let run = c.sum-sum.ensures.runs tt in
+    let small : fold (λ a x. a + x) 0 run.0.items < 2 ^ 20 + 1 =
+    fits_from_length _ _ 8 (2 ^ 20 + 1) (at_most_from_yields_List (YieldsList-from_slice c.as_slice.result.now cc) (omega arith)) c.map.ensures.closure (omega arith)
+    (λ x r q k. search (rules, tests, k)) run.0 run.0.seen run.1 in
+    omega (arith, small, run.3)
