@@ -1,5 +1,5 @@
 -- Steps of the loops over columns.
-use Rattle.std.proofs.Common.{◌≡◌, ℕ, ◌+◌, ◌/◌, ◌%◌, ◌<◌, ◌≤◌, Bool, true, false, cond, ◌==◌, eqb, List, [], ◌∷◌, ◌++◌, length, get_or, drop, replicate, find, option_map, Some, None, Option, MatchOption, IsSomeAnd, Bor, sym, refl, ap, ◌∙◌, inl, inr, arith}
+use Rattle.std.proofs.Common.{◌≡◌, ℕ, ◌+◌, ◌/◌, ◌%◌, ◌<◌, ◌≤◌, Bool, false, eqb, List, [], ◌∷◌, ◌++◌, length, get_or, drop, replicate, Some, sym, ap, ◌∙◌, inl, inr, arith}
 use Rattle.std.proofs.lemmas.List.{at_drop_more, get_or-replicate, get_or_past, length-replicate, length_push, append_assoc}
 use Rattle.std.proofs.lemmas.Bool.{cases_lt, cond-true, cond-false, eq-eqb, ne_eqb}
 use Rattle.choosing.specs.declared.column.Column.{Column}
@@ -17,27 +17,15 @@ blank_mark n q =
       | inr h ↦ get_or_past (replicate n false) q false (rw (length-replicate n false) h)
     ]
 
--- the row of the first column of this name
-pub first_row : (n : ℕ) (xs : List Column) (o : Option (Bor Column)) (r : Option ℕ) → option_map (λ x. x.now) o ≡ find (λ c. c.name == n) xs
-    → MatchOption o (r ≡ None) (λ x. IsSomeAnd r (λ y. y ≡ x.now.row)) → r ≡ row_of n xs
-first_row n xs o r is read = row_read o r read ∙ ap (option_map (λ c. c.row)) is ∙ sym (row_found xs)
-  where
-    row_read : (o : Option (Bor Column)) (r : Option ℕ) → MatchOption o (r ≡ None) (λ x. IsSomeAnd r (λ y. y ≡ x.now.row))
-        → r ≡ option_map (λ c. c.row) (option_map (λ x. x.now) o)
-    row_read None r h = h
-    row_read (Some x) None h = absurd h
-    row_read (Some x) (Some y) h = ap Some h
-
-    either : (b : Bool) (c : Column) (s : Option ℕ) (t : Option Column) → s ≡ option_map (λ d. d.row) t
-        → cond b (Some c.row) s ≡ option_map (λ d. d.row) (cond b (Some c) t)
-    either true c s t e = refl
-    either false c s t e = e
-
-    row_found : (cs : List Column) → row_of n cs ≡ option_map (λ c. c.row) (find (λ c. c.name == n) cs)
-    row_found [] = refl
-    row_found (c ∷ cs) = either (c.name == n) c _ _ (row_found cs)
-
 module _ (xs : List Column) (i : ℕ) (h : i < length xs) where
+  pub row_of_hit : (n : ℕ) → (get_or xs i blank).name ≡ n → row_of n (drop i xs) ≡ Some (get_or xs i blank).row
+  row_of_hit n e =
+      at_drop_more (row_of n) xs i blank h ∙ cond-true (eqb (get_or xs i blank).name n) _ _ (eq-eqb _ _ e)
+
+  pub row_of_miss : (n : ℕ) → ((get_or xs i blank).name ≡ n → ⊥) → row_of n (drop i xs) ≡ row_of n (drop (i + 1) xs)
+  row_of_miss n e =
+      at_drop_more (row_of n) xs i blank h ∙ cond-false (eqb (get_or xs i blank).name n) _ _ (ne_eqb _ _ e)
+
   pub cover_more : (over : ℕ → Bool) (ys : List Column)
       → cover over ys (drop i xs) ≡ cover (with_row over (row_of (get_or xs i blank).name ys)) ys (drop (i + 1) xs)
   cover_more over ys = at_drop_more (cover over ys) xs i blank h

@@ -1,9 +1,8 @@
 ghost use Rattle.std.specs.Prelude.{◌≡◌, IfOk, filter};
-ghost use Rattle.few.specs.Listed.{listed};
 ghost use Rattle.choosing.specs.Near.{shared, near_to};
 
 use crate::card::Card;
-use crate::columns::Columns;
+use crate::column::Column;
 use crate::walk::find;
 use std::alloc::{AllocError, Global};
 
@@ -11,11 +10,10 @@ use std::alloc::{AllocError, Global};
 const SHARED: usize = 2;
 
 // How many of the columns the kernel has.
-fn count_shared(kernel: &Columns, columns: &Columns) -> usize
-    ensures { result ≡ shared (listed kernel.now) (listed columns.now) }
+fn count_shared(kernel: &[Column], columns: &[Column]) -> usize
+    ensures { result ≡ shared kernel.now columns.now }
 {
     columns
-        .as_slice()
         .iter()
         .filter(|c| find(kernel, c.name).is_some())
         .count()
@@ -24,14 +22,14 @@ fn count_shared(kernel: &Columns, columns: &Columns) -> usize
 // The kernels that have two of the columns or more, in their order.
 pub(crate) fn gather(
     cards: &[Card],
-    columns: &Columns,
+    columns: &[Column],
     heap: Global,
 ) -> Result<Vec<Card>, AllocError>
-    ensures { IfOk result (λ near. near.items ≡ filter (near_to (listed columns.now)) cards.now) }
+    ensures { IfOk result (λ near. near.items ≡ filter (near_to columns.now) cards.now) }
 {
     cards
         .iter()
-        .filter(|card| count_shared(&card.columns, columns) >= SHARED)
+        .filter(|card| count_shared(card.columns.as_slice(), columns) >= SHARED)
         .copied()
         .collect(heap)
 }

@@ -63,7 +63,7 @@ fn best_of_kernel(
     requires before { SoFar weight cards.now kernel 0 best }
     ensures { IfOk result (λ o. SoFar weight cards.now (kernel + 1) 0 o) }
 {
-    let near = gather(cards, &card.columns, heap)?;
+    let near = gather(cards, card.columns.as_slice(), heap)?;
     let takers = near.as_slice();
     let end = 1usize << card.columns.len();
     let mut best = best;

@@ -45,8 +45,9 @@ impl Tally {
         requires { (self.old.rows + 1 < 2 ^ 64) × (self.old.before < 2 ^ 100) × (self.old.after < 2 ^ 100) }
         ensures { Looked (listed set.now) card.now self.old self.new }
     {
-        if is_taken(&card.columns, set, &self.covered) {
-            cover_set(&card.columns, set, &mut self.covered);
+        let columns = card.columns.as_slice();
+        if is_taken(columns, set.as_slice(), &self.covered) {
+            cover_set(columns, set.as_slice(), &mut self.covered);
             self.rows += 1;
             self.before += multiplications(card.degree, set);
             self.after += u128::from(card.degree);

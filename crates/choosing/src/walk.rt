@@ -3,6 +3,7 @@ ghost use Rattle.few.specs.Listed.{listed};
 ghost use Rattle.choosing.specs.Sets.{chosen};
 ghost use Rattle.choosing.specs.Taken.{covers, row_of, clear, fits, with_row, cover};
 
+use crate::column::Column;
 use crate::columns::Columns;
 use crate::covered::Covered;
 
@@ -22,35 +23,36 @@ pub(crate) fn pick(columns: &Columns, set: usize) -> Columns
 }
 
 // The row behind the column of this name.
-pub(crate) fn find(columns: &Columns, name: usize) -> Option<u8>
-    ensures { result ≡ row_of name (listed columns.now) }
+//
+// A loop: the choice spends most of its time here, and with `find` and `map` it takes a sixth longer.
+pub(crate) fn find(columns: &[Column], name: usize) -> Option<u8>
+    ensures { result ≡ row_of name columns.now }
 {
-    columns
-        .as_slice()
-        .iter()
-        .find(|c| c.name == name)
-        .map(|c| c.row)
+    for c in columns {
+        if c.name == name {
+            return Some(c.row);
+        }
+    }
+    None
 }
 
 // Whether the kernel has the column, and the row behind it is not covered.
-fn is_open(columns: &Columns, name: usize, covered: &Covered) -> bool
-    ensures { result ≡ clear (covers covered.now) (row_of name (listed columns.now)) }
+fn is_open(columns: &[Column], name: usize, covered: &Covered) -> bool
+    ensures { result ≡ clear (covers covered.now) (row_of name columns.now) }
 {
     find(columns, name).is_some_and(|row| !covered.has(row))
 }
 
 // Whether the kernel has every column of the set, and no row behind them is covered.
-pub(crate) fn is_taken(columns: &Columns, set: &Columns, covered: &Covered) -> bool
-    ensures { result ≡ fits (covers covered.now) (listed columns.now) (listed set.now) }
+pub(crate) fn is_taken(columns: &[Column], set: &[Column], covered: &Covered) -> bool
+    ensures { result ≡ fits (covers covered.now) columns.now set.now }
 {
-    set.as_slice()
-        .iter()
-        .all(|c| is_open(columns, c.name, covered))
+    set.iter().all(|c| is_open(columns, c.name, covered))
 }
 
 // Covers the row behind the column.
-fn cover_one(columns: &Columns, name: usize, covered: &mut Covered)
-    ensures { covers covered.new ≡ with_row (covers covered.old) (row_of name (listed columns.now)) }
+fn cover_one(columns: &[Column], name: usize, covered: &mut Covered)
+    ensures { covers covered.new ≡ with_row (covers covered.old) (row_of name columns.now) }
 {
     if let Some(row) = find(columns, name) {
         covered.add(row);
@@ -58,10 +60,10 @@ fn cover_one(columns: &Columns, name: usize, covered: &mut Covered)
 }
 
 // Covers the rows behind the columns of the set.
-pub(crate) fn cover_set(columns: &Columns, set: &Columns, covered: &mut Covered)
-    ensures { covers covered.new ≡ cover (covers covered.old) (listed columns.now) (listed set.now) }
+pub(crate) fn cover_set(columns: &[Column], set: &[Column], covered: &mut Covered)
+    ensures { covers covered.new ≡ cover (covers covered.old) columns.now set.now }
 {
-    for c in set.as_slice() {
+    for c in set {
         cover_one(columns, c.name, covered);
     }
 }

@@ -1,5 +1,6 @@
-use Rattle.std.proofs.Common.{◌+◌, ◌<◌, ◌≤◌, length, sym, ◌∙◌, subst, arith}
+use Rattle.std.proofs.Common.{ap, filter, ◌+◌, ◌<◌, ◌≤◌, length, sym, ◌∙◌, subst, arith}
 use Rattle.few.specs.Listed.{listed}
+use Rattle.choosing.specs.Near.{near_to}
 use Rattle.choosing.specs.Progress.{SoFar}
 use Rattle.choosing.proofs.Bests.{candidate_not, near_taken, tells_from, end_is, so_far_skip, so_far_better, so_far_next}
 use Rattle.choosing.proofs.search.best_of_kernel.Goals as goal
@@ -12,7 +13,7 @@ loop-set-preserved c =
     elim c.if-len-ge-LEAST.branch [
       | then-len-ge-LEAST w ↦
           let two : 2 ≤ length (listed c.pick-picked.result) = omega arith in
-          let near = near_taken _ _ _ _ c.requires.at many few _ _ c.pick-picked.ensures two _ (c.as_slice-takers.ensures.value ∙ c.in_ok-near.ensures) in
+          let near = near_taken _ _ _ _ c.requires.at many few _ _ c.pick-picked.ensures two _ (c.as_slice-takers.ensures.value ∙ c.in_ok-near.ensures ∙ ap (λ l. filter (near_to l) c.args.cards.now) c.as_slice.ensures.is) in
           subst (SoFar c.args.weight c.args.cards.now c.args.kernel (c.loop-set.set + 1)) (sym w.best-is)
           (
           so_far_better _ _ _ _ w.weigh.result _ _
