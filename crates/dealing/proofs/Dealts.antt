@@ -8,11 +8,9 @@ use Rattle.algebra.specs.Rows.{Alike, Row, degree, divides_test, multiples, quot
 use Rattle.algebra.proofs.Degrees.{degree_same}
 use Rattle.choosing.specs.declared.card.Card.{Card}
 use Rattle.choosing.specs.declared.column.Column.{Column}
-use Rattle.cubes.specs.declared.cube.Cube.{Cube}
 use Rattle.cubes.specs.declared.row.Row.{Row as Coded}
-use Rattle.cubes.specs.Powers.{Divided, Misses, power}
+use Rattle.cubes.specs.Powers.{power}
 use Rattle.cubes.specs.Rows.{as_row, as_rows}
-use Rattle.cubes.proofs.Tests.{test_no, test_yes}
 use Rattle.rewriting.specs.Styles.{Style}
 use Rattle.rewriting.specs.Taking.{Kernel, found, spot}
 use Rattle.dealing.specs.Cards.{Deals, Dealt, Named, column_of, columns_of}
@@ -35,22 +33,17 @@ naming_grown old r n new h = go (found old r) h.kept
     go false e = (r ∷ [], e)
 
 -- the column of one row
-pub no_column : (old : List Row) (c : Powers) (p : ℕ) (r : Row) → Misses c r.cube → AddsColumn old c p r None old
-no_column old c p r m = record { grown = grown_none old; is = test_no c r.cube m }
-
-pub some_column : (old new : List Row) (c : Powers) (p : ℕ) (row : Coded) (q : Cube) (n d : ℕ) → Divided (power row.cube) c (power q)
-    → Naming old (as_row (record { cube = q; sign = row.sign })) n new → d ≡ degree (power q)
-    → AddsColumn old c p (as_row row) (Some (record { name = n; row = p; degree = d })) new
-some_column old new c p row q n d h g e =
-    let like : Alike (as_row (record { cube = q; sign = row.sign })) (quotient_row c (as_row row)) = record { sign = refl; cubes = h.is } in
-    record {
-      grown = naming_grown old _ n new g;
-      is = (
-        test_yes c (power row.cube) h.divides,
-        sym (found_same new _ _ like) ∙ g.named,
-        ap₂ (λ (m k : ℕ). record { name = m; row = p; degree = k }) (g.name ∙ spot_same new _ _ like) (e ∙ degree_same _ _ h.is),
-      );
-    }
+pub some_column : (old new : List Row) (c : Powers) (p : ℕ) (r : Row) (q : Coded) (n d : ℕ)
+    → (divides_test c r.cube ≡ true) × Alike (quotient_row c r) (as_row q)
+    → Naming old (as_row q) n new → d ≡ degree (power q.cube) → AddsColumn old c p r (Some (record { name = n; row = p; degree = d })) new
+some_column old new c p r q n d h g e = record {
+  grown = naming_grown old _ n new g;
+  is = (
+    h.0,
+    found_same new _ _ h.1 ∙ g.named,
+    ap₂ (λ (m k : ℕ). record { name = m; row = p; degree = k }) (g.name ∙ sym (spot_same new _ _ h.1)) (e ∙ sym (degree_same _ _ h.1.cubes)),
+  );
+}
 
 -- what was named stays, and so do the columns
 module _ (old new : List Row) (g : Grown old new) where

@@ -1,6 +1,8 @@
 -- Looking a row up among those that have names.
-use Rattle.std.proofs.Common.{◌≡◌, ℕ, suc, ◌+◌, ◌<◌, ◌≤◌, Bool, true, false, cond, ◌||◌, eqb, List, [], ◌∷◌, ◌++◌, map, length, get_or, drop, sym, refl, ap, ◌∙◌, ap₂, ⊎_elim, arith}
-use Rattle.std.proofs.lemmas.List.{at_drop_all, at_drop_more, length-map, map_push}
+use Rattle.std.proofs.Common.{◌≡◌, ℕ, suc, ◌+◌, Bool, true, false, cond, ◌||◌, eqb, List, [], ◌∷◌, ◌++◌, map, length, Some, None, Option, sym, refl, ap, ◌∙◌, ap₂, ⊎_elim, arith}
+use Rattle.std.proofs.lemmas.List.{length-map, map_push}
+use Rattle.std.proofs.lemmas.Iterator.Adapters.{position_from-zero}
+use Rattle.std.specs.List.{position, position_from}
 use Rattle.std.proofs.lemmas.Bool.{cases_Bool, cond-false, ne_eqb, or_left, or_parts, or_right}
 use Rattle.std.proofs.lemmas.Bool.Decides.{same_from_decides}
 use Rattle.algebra.specs.Cubes.{Same}
@@ -30,35 +32,20 @@ degrees_tell a b n =
     (λ e. absurd (n (a.counted ∙ degree_same (power a.row.cube) (power b.row.cube) ((alike_decides (entry_row a) (entry_row b)).0 e).cubes ∙ sym b.counted)))
     (λ e. e) (cases_Bool (alike (entry_row a) (entry_row b))))
 
--- one entry more is looked at
-module _ (xs : List Entry) (r : Row) (i : ℕ) (inv : (found (map entry_row (drop i xs)) r ≡ found (map entry_row xs) r) × (i + spot (map entry_row (drop i xs)) r ≡ spot (map entry_row xs) r)) where
-  module _ (x : Entry) (h : i < length xs) (is : x ≡ get_or xs i x) where
-    found_next : found (map entry_row (drop i xs)) r ≡ (alike (entry_row x) r || found (map entry_row (drop (i + 1) xs)) r)
-    found_next = at_drop_more (λ ys. found (map entry_row ys) r) xs i x h ∙ ap (λ (y : Entry). alike (entry_row y) r || found (map entry_row (drop (i + 1) xs)) r) (sym is)
+-- the place of the first entry alike is the name, if there is one
+pub place_is : (xs : List Entry) (r : Row) → position (λ x. alike (entry_row x) r) xs ≡ cond (found (map entry_row xs) r) (Some (spot (map entry_row xs) r)) None
+place_is xs r =
+    position_from-zero (λ x. alike (entry_row x) r) xs ∙ place_from 0 xs
+    ∙ ap (λ (n : ℕ). cond (found (map entry_row xs) r) (Some n) None) (omega arith)
+  where
+    next : (b f : Bool) (i n : ℕ) (o : Option ℕ) → o ≡ cond f (Some (i + 1 + n)) None → cond b (Some i) o ≡ cond (b || f) (Some (i + cond b 0 (suc n))) None
+    next true f i n o h = ap Some (omega arith)
+    next false true i n o h = h ∙ ap Some (omega arith)
+    next false false i n o h = h
 
-    spot_next : spot (map entry_row (drop i xs)) r ≡ cond (alike (entry_row x) r) 0 (suc (spot (map entry_row (drop (i + 1) xs)) r))
-    spot_next =
-        at_drop_more (λ ys. spot (map entry_row ys) r) xs i x h
-        ∙ ap (λ (y : Entry). cond (alike (entry_row y) r) 0 (suc (spot (map entry_row (drop (i + 1) xs)) r))) (sym is)
-
-    pub look_found : alike (entry_row x) r ≡ true → (found (map entry_row xs) r ≡ true) × (i ≡ spot (map entry_row xs) r)
-    look_found e =
-        let at : spot (map entry_row (drop i xs)) r ≡ 0 = spot_next ∙ ap (λ (b : Bool). cond b 0 (suc (spot (map entry_row (drop (i + 1) xs)) r))) e in (
-          (sym inv.0 ∙ found_next ∙ ap (λ (b : Bool). b || found (map entry_row (drop (i + 1) xs)) r) e),
-          (omega (arith, inv.1, at)),
-        )
-
-    pub look_more : alike (entry_row x) r ≡ false
-        → (found (map entry_row (drop (i + 1) xs)) r ≡ found (map entry_row xs) r) × (i + 1 + spot (map entry_row (drop (i + 1) xs)) r ≡ spot (map entry_row xs) r)
-    look_more e =
-        let at : spot (map entry_row (drop i xs)) r ≡ suc (spot (map entry_row (drop (i + 1) xs)) r) =
-        spot_next ∙ ap (λ (b : Bool). cond b 0 (suc (spot (map entry_row (drop (i + 1) xs)) r))) e in (
-          (sym (found_next ∙ ap (λ (b : Bool). b || found (map entry_row (drop (i + 1) xs)) r) e) ∙ inv.0),
-          (omega (arith, inv.1, at)),
-        )
-
-  pub look_all : length xs ≤ i → found (map entry_row xs) r ≡ false
-  look_all h = sym inv.0 ∙ at_drop_all (λ ys. found (map entry_row ys) r) xs i h
+    place_from : (i : ℕ) (xs : List Entry) → position_from (λ x. alike (entry_row x) r) i xs ≡ cond (found (map entry_row xs) r) (Some (i + spot (map entry_row xs) r)) None
+    place_from i [] = refl
+    place_from i (x ∷ xs) = next (alike (entry_row x) r) (found (map entry_row xs) r) i (spot (map entry_row xs) r) _ (place_from (i + 1) xs)
 
 -- a row that had no name is added behind
 found_push : (xs : List Row) (r : Row) → found (xs ++ r ∷ []) r ≡ true

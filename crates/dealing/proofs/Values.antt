@@ -8,7 +8,7 @@ use Rattle.algebra.proofs.Sums.{total_append, total_same}
 use Rattle.choosing.specs.declared.card.Card.{Card}
 use Rattle.choosing.specs.declared.column.Column.{Column}
 use Rattle.choosing.specs.Savings.{inside, muls, muls_before, saved_adds, saved_muls, saving, spent}
-use Rattle.choosing.specs.Sets.{listed}
+use Rattle.few.specs.Listed.{listed}
 use Rattle.choosing.specs.Taken.{cover, fits, none}
 use Rattle.choosing.specs.Taken.{taken as cards_taken}
 use Rattle.rewriting.specs.Choosing.{weighed}

@@ -5,7 +5,7 @@ use Rattle.algebra.specs.Cubes.{Powers}
 use Rattle.algebra.specs.Rows.{Row, degree, divides_test, quotient_row}
 use Rattle.choosing.specs.declared.card.Card.{Card}
 use Rattle.choosing.specs.declared.column.Column.{Column}
-use Rattle.choosing.specs.Sets.{listed}
+use Rattle.few.specs.Listed.{listed}
 use Rattle.cubes.specs.Powers.{power}
 use Rattle.kernels.specs.declared.kernel.Kernel.{Kernel as Listed}
 use Rattle.rewriting.specs.Choosing.{columns_in}

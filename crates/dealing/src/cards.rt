@@ -1,5 +1,5 @@
 ghost use Rattle.std.specs.Prelude.{◌≡◌, ◌<◌, ◌++◌, length, IfOk};
-ghost use Rattle.choosing.specs.Sets.{listed};
+ghost use Rattle.few.specs.Listed.{listed};
 ghost use Rattle.cubes.specs.Powers.{power};
 ghost use Rattle.cubes.specs.Rows.{as_row};
 ghost use Rattle.table.specs.Of.{style_of};
@@ -24,21 +24,16 @@ fn column_of(
 ) -> Result<Option<Column>, AllocError>
     ensures { IfOk result (λ o. AddsColumn (named_rows names.old) (power cokernel) place (as_row row.now) o (named_rows names.new)) }
 {
-    match row.cube.divide(cokernel) {
-        Some(cube) => {
-            let name = names.name_of(Row {
-                cube,
-                sign: row.sign,
-            })?;
-            let degree = cube.degree() as u16;
-            Ok(Some(Column {
-                name,
-                row: place,
-                degree,
-            }))
-        }
-        None => Ok(None),
-    }
+    let Some(quotient) = row.divide(cokernel) else {
+        return Ok(None);
+    };
+    let name = names.name_of(quotient)?;
+    let degree = quotient.cube.degree() as u16;
+    Ok(Some(Column {
+        name,
+        row: place,
+        degree,
+    }))
 }
 
 // Appends a column, if there is one.
@@ -47,10 +42,7 @@ fn append(columns: &mut Columns, column: Option<Column>)
     ensures { listed columns.new ≡ listed columns.old ++ one_or_none column }
 {
     if let Some(c) = column {
-        match columns.push(c) {
-            Ok(_) => {}
-            Err(_) => unreachable(),
-        }
+        columns.push(c).unwrap();
     }
 }
 
@@ -60,9 +52,9 @@ fn card_of(names: &mut Names, table: &Table, kernel: &Kernel) -> Result<Card, Al
 {
     let rows = table.rows(kernel.expression);
     let mut columns = Columns::new();
-    for k in 0..rows.len() {
+    for (k, row) in rows.iter().enumerate() {
         let place = (ROWS * kernel.expression + k) as u8;
-        let column = column_of(names, &rows[k], place, kernel.cokernel)?;
+        let column = column_of(names, row, place, kernel.cokernel)?;
         append(&mut columns, column);
     }
     let degree = kernel.cokernel.degree() as u16;

@@ -41,13 +41,10 @@ impl Names {
     fn find(&self, sought: &Entry) -> Option<usize>
         ensures { elim result [ Some n ↦ (found (named_rows self.now) (entry_row sought.now) ≡ true) × (n ≡ spot (named_rows self.now) (entry_row sought.now)) | None ↦ found (named_rows self.now) (entry_row sought.now) ≡ false ] }
     {
-        let entries = self.entries.as_slice();
-        for i in 0..entries.len() {
-            if same(&entries[i], sought) {
-                return Some(i);
-            }
-        }
-        None
+        self.entries
+            .as_slice()
+            .iter()
+            .position(|entry| same(entry, sought))
     }
 
     // The name of a signed cube: the place of the first that is alike, where it is added if there is none.

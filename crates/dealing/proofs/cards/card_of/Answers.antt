@@ -1,7 +1,7 @@
 use Rattle.std.proofs.Common.{◌*◌, List, ap, ◌∙◌, subst, arith}
 use Rattle.std.proofs.lemmas.List.{take_all}
 use Rattle.algebra.specs.Rows.{quotients}
-use Rattle.choosing.specs.Sets.{listed}
+use Rattle.few.specs.Listed.{listed}
 use Rattle.cubes.specs.declared.row.Row.{Row}
 use Rattle.cubes.specs.Powers.{power}
 use Rattle.cubes.specs.Rows.{as_rows}

@@ -1,6 +1,6 @@
 use Rattle.std.proofs.Common.{◌≡◌, ◌*◌, take}
 use Rattle.algebra.specs.Rows.{quotients}
-use Rattle.choosing.specs.Sets.{listed}
+use Rattle.few.specs.Listed.{listed}
 use Rattle.cubes.specs.Powers.{power}
 use Rattle.cubes.specs.Rows.{as_rows}
 use Rattle.dealing.specs.Cards.{Named, columns_of}

@@ -1,25 +1,19 @@
-use Rattle.std.proofs.Common.{List, map, sym, ap, ◌∙◌}
-use Rattle.rewriting.specs.Taking.{found, spot}
-use Rattle.dealing.specs.declared.entry.Entry.{Entry}
-use Rattle.dealing.specs.Naming.{entry_row}
-use Rattle.dealing.proofs.Lookings.{look_all, look_found, look_more}
+use Rattle.std.proofs.Common.{◌≡◌, ℕ, true, false, Some, None, Option, rules, tests, sym, refl, ap, ◌∙◌, subst}
+use Rattle.std.proofs.lemmas.Iterator.{YieldsList-from_slice}
+use Rattle.std.proofs.lemmas.Iterator.Search.{position_from_yields_List}
+use Rattle.std.proofs.lemmas.Bool.{cond_both}
+use Rattle.std.specs.List.{position}
+use Rattle.rewriting.specs.Taking.{alike, found, spot}
+use Rattle.dealing.specs.Naming.{entry_row, named_rows}
+use Rattle.dealing.proofs.Lookings.{place_is}
 use Rattle.dealing.proofs.names.Names.find.Goals as goal
-
-pub returns-then-same : goal.returns-then-same
-returns-then-same c =
-    let h =
-    look_found c.as_slice-entries.result.now (entry_row c.args.sought.now) c.loop-i.i c.loop-i.invariant c.index-entries-i.result c.loop-i-test.true c.index-entries-i.is
-    (sym c.if-same.ensures) in (
-      (ap (λ (xs : List Entry). found (map entry_row xs) (entry_row c.args.sought.now)) (sym c.as_slice-entries.ensures.value) ∙ h.0),
-      (h.1 ∙ ap (λ (xs : List Entry). spot (map entry_row xs) (entry_row c.args.sought.now)) c.as_slice-entries.ensures.value),
-    )
-
-pub loop-i-preserved : goal.loop-i-preserved
-loop-i-preserved c =
-    look_more c.as_slice-entries.result.now (entry_row c.args.sought.now) c.loop-i.i c.loop-i.invariant c.index-entries-i.result c.loop-i-test.true c.index-entries-i.is
-    (sym c.if-same.ensures)
 
 pub returns : goal.returns
 returns c =
-    ap (λ (xs : List Entry). found (map entry_row xs) (entry_row c.args.sought.now)) (sym c.as_slice-entries.ensures.value)
-    ∙ look_all c.as_slice-entries.result.now (entry_row c.args.sought.now) c.loop-i.i c.loop-i.invariant c.loop-i-test.false
+    let rows = named_rows c.args.self.now in
+    let r = entry_row c.args.sought.now in
+    let at : c.position.result ≡ position (λ x. alike (entry_row x) r) c.as_slice.result.now =
+    position_from_yields_List (λ x. alike (entry_row x) r) _ _ c.position.result c.position.ensures.ran (YieldsList-from_slice c.as_slice.result.now cc) (λ x b q k. search (rules, tests)) in
+    let Told : Option ℕ → Type 0 = λ o. elim o [ Some n ↦ (found rows r ≡ true) × (n ≡ spot rows r) | None ↦ found rows r ≡ false ] in
+    subst Told (sym (at ∙ ap (position (λ x. alike (entry_row x) r)) c.as_slice.ensures.value ∙ place_is _ r))
+    (cond_both (found rows r) (Some (spot rows r)) None Told (λ e. (e, refl)) (λ e. e))
