@@ -36,13 +36,7 @@ module _ (xs : List Card) (p : ℕ) (card : Card) (n : ℕ) (at : slice_get xs p
     pub candidate_not : length ds < 2 → Candidate xs p s → ⊥
     candidate_not lt c = omega (arith, ap length set_is, c.two)
 
-    pub candidate_past : (1 * 2 ^ n) % 2 ^ 64 ≤ s → Candidate xs p s → ⊥
-    candidate_past h c = omega (arith, end_is, c.number)
-
-    -- the kernels taken are those taken among all, or among the near ones
-    pub all_taken : taken ds none xs ≡ taken_at xs p s
-    all_taken = ap (λ l. taken l none xs) set_is
-
+    -- the kernels taken among the near ones are those taken among all
     pub near_taken : 2 ≤ length ds → (ns : List Card) → ns ≡ filter (near_to (listed card.columns)) xs → taken ds none ns ≡ taken_at xs p s
     near_taken two ns near =
         ap (taken ds none) near

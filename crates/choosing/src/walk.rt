@@ -8,6 +8,8 @@ use crate::columns::Columns;
 use crate::covered::Covered;
 
 // The columns that the binary number `set` names: the first counts 1, the second 2, the third 4.
+//
+// A loop: columns kept in place are put one by one, and cannot be collected.
 pub(crate) fn pick(columns: &Columns, set: usize) -> Columns
     ensures { listed result ≡ chosen set (listed columns.now) }
 {
