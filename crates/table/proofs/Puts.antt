@@ -1,35 +1,33 @@
 -- A part put into the order.
-use Rattle.std.proofs.Common.{◌≡◌, ℕ, ◌+◌, ◌<◌, ◌≤◌, Bool, true, false, cond, List, [], ◌∷◌, ◌++◌, length, get_or, take, drop, sym, ap, ◌∙◌, arith}
-use Rattle.std.specs.List.{insert}
+use Rattle.std.proofs.Common.{◌≡◌, ℕ, suc, ◌+◌, ◌<◌, ◌≤◌, Bool, true, false, cond, not, List, [], ◌∷◌, length, refl, ap, ◌∙◌, arith}
+use Rattle.std.specs.List.{insert, position, position_or_len}
+use Rattle.std.specs.Option.{unwrap_or}
 use Rattle.std.proofs.lemmas.List.Edits.{length-insert}
-use Rattle.std.proofs.lemmas.List.{append_assoc, at_drop_all, at_drop_more, drop_all, get_or-take, length-take-le, same_lists, get_or_default, take_more}
+use Rattle.std.proofs.lemmas.List.Sums.{prefix_len-le-length}
+use Rattle.std.proofs.lemmas.Grind.{common_steps}
+use Rattle.few.specs.declared.few.Few.{Few}
+use Rattle.few.specs.Listed.{listed}
+use Rattle.few.proofs.Lengths.{listed_within}
 use Rattle.rewriting.specs.Order.{put}
 
-module _ (named : ℕ → Bool) (p : ℕ) (xs : List ℕ) (i : ℕ) where
-  module _ (h : i < length xs) where
-    step : (b : Bool) → named (get_or xs i 0) ≡ b → put named p (drop i xs) ≡ cond b (p ∷ get_or xs i 0 ∷ drop (i + 1) xs) (get_or xs i 0 ∷ put named p (drop (i + 1) xs))
-    step b e =
-        at_drop_more (put named p) xs i 0 h
-        ∙ ap (λ (v : Bool). cond v (p ∷ get_or xs i 0 ∷ drop (i + 1) xs) (get_or xs i 0 ∷ put named p (drop (i + 1) xs))) e
-
-    pub put_here : named (get_or xs i 0) ≡ true → put named p (drop i xs) ≡ p ∷ drop i xs
-    put_here e = step true e ∙ ap (λ (ys : List ℕ). p ∷ ys) (sym (at_drop_more (λ (ys : List ℕ). ys) xs i 0 h))
-
-    pub put_later : named (get_or xs i 0) ≡ false → take i xs ++ put named p (drop i xs) ≡ take (i + 1) xs ++ put named p (drop (i + 1) xs)
-    put_later e =
-        ap (λ (ys : List ℕ). take i xs ++ ys) (step false e)
-        ∙ sym (ap (λ (ys : List ℕ). ys ++ put named p (drop (i + 1) xs)) (take_more xs i 0 h) ∙ append_assoc (take i xs) (get_or xs i 0 ∷ []) (put named p (drop (i + 1) xs)))
-
-  pub put_last : length xs ≤ i → put named p (drop i xs) ≡ p ∷ drop i xs
-  put_last h = at_drop_all (put named p) xs i h ∙ ap (λ (ys : List ℕ). p ∷ ys) (sym (drop_all i xs h))
-
--- a longer list that begins with the order and the part in it
-pub begins_with : (xs ys : List ℕ) (at p i : ℕ) → at ≤ length xs → length xs + 1 ≤ i → length xs + 1 ≤ length ys → ((k : ℕ) → k < i → get_or ys k 0 ≡ get_or (insert xs at p) k 0)
-    → take (length xs + 1) ys ≡ insert xs at p
-begins_with xs ys at p i h l m f =
-    same_lists (take (length xs + 1) ys) (insert xs at p) (n ∙ sym (length-insert xs at p h))
-    (λ k d u. (let v : k < length xs + 1 = omega (arith, n) in
-    get_or-take (length xs + 1) ys k d v ∙ get_or_default ys k d 0 (omega arith) ∙ f k (omega arith) ∙ get_or_default (insert xs at p) k 0 d (omega (arith, length-insert xs at p h))))
+-- the part stands at the first place that is named, or last
+put_first : (named : ℕ → Bool) (p : ℕ) (xs : List ℕ) → put named p xs ≡ insert xs (position_or_len named xs) p
+put_first named p [] = refl
+put_first named p (x ∷ xs) = go (named x) (put_first named p xs)
   where
-    n : length (take (length xs + 1) ys) ≡ length xs + 1
-    n = length-take-le (length xs + 1) ys m
+    go : (b : Bool) → put named p xs ≡ insert xs (position_or_len named xs) p
+        → cond b (p ∷ x ∷ xs) (x ∷ put named p xs) ≡ insert (x ∷ xs) (cond (not b) (1 + position_or_len named xs) 0) p
+    go true h = refl
+    go false h =
+        let next : suc (position_or_len named xs) ≡ 1 + position_or_len named xs = omega arith in
+        ap (λ (ys : List ℕ). x ∷ ys) h ∙ ap (λ (k : ℕ). insert (x ∷ xs) k p) next
+
+first_or_last : (named : ℕ → Bool) (xs : List ℕ) → unwrap_or (position named xs) (length xs) ≡ position_or_len named xs
+first_or_last named xs = grind (arith, common_steps, prefix_len-le-length (λ x. not (named x)) xs)
+
+pub put_at : (named : ℕ → Bool) (p n : ℕ) (xs : List ℕ) → n ≡ length xs → insert xs (unwrap_or (position named xs) n) p ≡ put named p xs
+put_at named p n xs h = grind (arith, put_first named p xs, first_or_last named xs)
+
+-- there was room
+pub room : (old new : Few ℕ 32) (parts n p : ℕ) → length (listed old) ≡ 16 + parts → n ≤ length (listed old) → listed new ≡ insert (listed old) n p → parts < 16
+room old new parts n p l h e = omega (arith, l, ap length e, length-insert (listed old) n p h, listed_within new)

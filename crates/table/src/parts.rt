@@ -1,59 +1,23 @@
-ghost use Rattle.std.specs.Prelude.{◌≡◌, ℕ, ◌+◌, ◌<◌, ◌≤◌, false, length, take, Some, None, slice_index};
-ghost use Rattle.std.specs.List.{insert};
+ghost use Rattle.std.specs.Prelude.{◌≡◌, Some, None};
+ghost use Rattle.std.specs.List.{position};
 ghost use Rattle.cubes.specs.Expressions.{rows_of};
-ghost use Rattle.rewriting.specs.Order.{put};
 ghost use Rattle.table.specs.Adding.{AddsPart, source};
 
-use crate::table::{EXPRESSIONS, PARTS, Table};
+use crate::table::Table;
 use cubes::Expression;
 
 // whether expression e is marked
 fn is_source(sources: &[bool], e: usize) -> bool
     ensures { result ≡ source sources.now e }
 {
-    if e < sources.len() { sources[e] } else { false }
+    sources.get(e).copied().unwrap_or(false)
 }
 
-// the place of the first marked expression; behind the last where there is none
-fn first_source(order: &[usize], sources: &[bool]) -> usize
-    ensures within { result ≤ length order.now }
-    ensures first { (p : ℕ) → put (source sources.now) p order.now ≡ insert order.now result p }
+// the place of the first marked expression
+fn first_source(order: &[usize], sources: &[bool]) -> Option<usize>
+    ensures { result ≡ position (source sources.now) order.now }
 {
-    for i in 0..order.len() {
-        if is_source(sources, order[i]) {
-            return i;
-        }
-    }
-    order.len()
-}
-
-// what stands at the place i once the part is put at the place `at`
-fn entry_at(order: &[usize], at: usize, part: usize, i: usize) -> usize
-    requires at { at ≤ length order.now }
-    requires i { i ≤ length order.now }
-    ensures { result ≡ slice_index (insert order.now at part) i }
-{
-    if i < at {
-        order[i]
-    } else if i == at {
-        part
-    } else {
-        order[i - 1]
-    }
-}
-
-// the order with the part just before the first marked expression
-fn order_with(order: &[usize], part: usize, sources: &[bool]) -> [usize; EXPRESSIONS]
-    requires { length order.now < 32 }
-    ensures long { length result ≡ 32 }
-    ensures put { take (length order.now + 1) result ≡ put (source sources.now) part order.now }
-{
-    let at = first_source(order, sources);
-    let mut next = [0; EXPRESSIONS];
-    for i in 0..order.len() + 1 {
-        next[i] = entry_at(order, at, part, i);
-    }
-    next
+    order.iter().position(|e| is_source(sources, *e))
 }
 
 impl Table {
@@ -62,11 +26,12 @@ impl Table {
     pub fn with_part(&self, part: Expression, sources: &[bool]) -> Option<Table>
         ensures { elim result [ Some t ↦ AddsPart (source sources.now) (rows_of part) self.now t | None ↦ self.now.parts ≡ 16 ] }
     {
-        if self.parts == PARTS {
-            return None;
-        }
         let number = self.standing();
-        let order = order_with(&self.order[0..number], number, sources);
+        let at = first_source(self.order(), sources).unwrap_or(number);
+        let mut order = self.order;
+        let Ok(()) = order.insert(at, number) else {
+            return None;
+        };
         let mut expressions = self.expressions;
         expressions[number] = part;
         Some(Table {

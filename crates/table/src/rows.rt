@@ -28,6 +28,6 @@ impl Table {
     pub fn order(&self) -> &[usize]
         ensures { result.now ≡ order_of self.now }
     {
-        &self.order[..self.standing()]
+        self.order.as_slice()
     }
 }
