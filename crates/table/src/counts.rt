@@ -13,13 +13,10 @@ impl Table {
             additions: 0,
             negations: 0,
         };
-        for e in 0..self.standing() {
-            let x = self.expressions[e];
-            sum = Counts {
-                multiplications: sum.multiplications + x.multiplications() as usize,
-                additions: sum.additions + x.additions() as usize,
-                negations: sum.negations + x.negations() as usize,
-            };
+        for x in &self.expressions[..self.standing()] {
+            sum.multiplications += x.multiplications() as usize;
+            sum.additions += x.additions() as usize;
+            sum.negations += x.negations() as usize;
         }
         sum
     }

@@ -1,4 +1,7 @@
-use Rattle.std.proofs.Common.{◌≡◌, ℕ, ◌+◌, ◌<◌, List, sym, refl, ap, ◌∙◌, ap₂, arith}
+use Rattle.std.proofs.Common.{◌≡◌, ℕ, ◌+◌, ◌<◌, List, sym, refl, ap, ◌∙◌, ap₂, arith, length-take}
+use Rattle.std.proofs.lemmas.List.{get_or-take}
+use Rattle.cubes.specs.declared.expression.Expression.{Expression}
+use Rattle.cubes.specs.Expressions.{rows_of}
 use Rattle.algebra.specs.Counts.{additions, multiplications, negations}
 use Rattle.algebra.specs.Sums.{counting, up_to}
 use Rattle.cubes.specs.Rows.{as_rows}
@@ -7,25 +10,26 @@ use Rattle.table.specs.Of.{style_of}
 use Rattle.table.proofs.Looks.{rows_read, up_to_next}
 use Rattle.table.proofs.table.Table.counts.Goals as goal
 
-pub loop-e-init : goal.loop-e-init
+pub loop-x-init : goal.loop-x-init
 unfolding up_to
-loop-e-init c = (record { mul = refl; add = refl; neg = refl }, omega arith, omega arith, omega arith)
+loop-x-init c = (record { mul = refl; add = refl; neg = refl }, omega arith, omega arith, omega arith)
 
-pub loop-e-preserved : goal.loop-e-preserved
-loop-e-preserved c =
+pub loop-x-preserved : goal.loop-x-preserved
+loop-x-preserved c =
     let t = c.args.self.now in
-    let e = c.loop-e.e in
+    let e = c.loop-x.x-index in
     let more : (count : List Term → ℕ) (n r : ℕ) → n ≡ up_to counting e (λ k. count ((style_of t).expression k)) → r ≡ count ((style_of t).expression e)
     → n + r ≡ up_to counting (e + 1) (λ k. count ((style_of t).expression k))
     = λ count n r p q. ap₂ ◌+◌ p q ∙ sym (up_to_next e (λ k. count ((style_of t).expression k))) in
-    let l : e < 32 = omega (arith, c.loop-e-test.true, c.standing-e-end.ensures, t.few) in
-    let here = ap as_rows (rows_read t e c.index-self-e.result l) in (
+    let made : e < c.standing.result = omega (arith, c.loop-x-test.true, length-take c.standing.result t.expressions) in
+    let l : e < 32 = omega (arith, made, c.standing.ensures, t.few) in
+    let here = ap (λ (x : Expression). as_rows (rows_of x)) (c.x-item.is ∙ get_or-take c.standing.result t.expressions e c.x-item.result made) ∙ ap as_rows (rows_read t e c.x-item.result l) in (
       record {
-        mul = more multiplications _ _ c.loop-e.invariant.0.mul (c.multiplications.ensures ∙ ap multiplications here);
-        add = more additions _ _ c.loop-e.invariant.0.add (c.additions.ensures ∙ ap additions here);
-        neg = more negations _ _ c.loop-e.invariant.0.neg (c.negations.ensures ∙ ap negations here);
+        mul = more multiplications _ _ c.loop-x.invariant.0.mul (c.multiplications.ensures ∙ ap multiplications here);
+        add = more additions _ _ c.loop-x.invariant.0.add (c.additions.ensures ∙ ap additions here);
+        neg = more negations _ _ c.loop-x.invariant.0.neg (c.negations.ensures ∙ ap negations here);
       },
-      omega (arith, c.loop-e.invariant.1, c.multiplications.type_inv),
-      omega (arith, c.loop-e.invariant.2, c.additions.type_inv),
-      omega (arith, c.loop-e.invariant.3, c.negations.type_inv),
+      omega (arith, c.loop-x.invariant.1, c.multiplications.type_inv),
+      omega (arith, c.loop-x.invariant.2, c.additions.type_inv),
+      omega (arith, c.loop-x.invariant.3, c.negations.type_inv),
     )
