@@ -1,3 +1,4 @@
 mod Bests
 pub mod Rows
 mod Outs
+pub mod Marks

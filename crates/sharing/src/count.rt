@@ -13,8 +13,8 @@ pub(crate) fn rows_divided(table: &Table, cube: Cube) -> usize
     ensures small { result ≤ 8 * 32 }
 {
     let mut n = 0;
-    for e in 0..table.standing() {
-        n += divided_rows(table.rows(e), cube);
+    for x in &table.expressions[..table.standing()] {
+        n += divided_rows(x.rows(), cube);
     }
     n
 }

@@ -6,17 +6,21 @@ ghost use Rattle.table.specs.Adding.{source};
 ghost use Rattle.table.specs.Of.{style_of};
 
 use cubes::{Cube, Expression, Row, Sign, divided_rows};
+use std::array;
 use table::{EXPRESSIONS, Table};
+
+// whether expression e has a row that the cube divides
+fn has_divided(table: &Table, cube: Cube, e: usize) -> bool
+    ensures { result ≡ shared_from (style_of table.now) (power cube) e }
+{
+    divided_rows(table.rows(e), cube) > 0
+}
 
 // Which expressions have a row that the cube divides.
 fn sources_of(table: &Table, cube: Cube) -> [bool; EXPRESSIONS]
     ensures { (e : ℕ) → source result e ≡ shared_from (style_of table.now) (power cube) e }
 {
-    let mut sources = [false; EXPRESSIONS];
-    for e in 0..EXPRESSIONS {
-        sources[e] = divided_rows(table.rows(e), cube) > 0;
-    }
-    sources
+    array::from_fn(|e| has_divided(table, cube, e))
 }
 
 // Every expression that stands with the cube shared out: each row that it divides is divided once and gains the next part's
@@ -26,12 +30,8 @@ fn share_rows(table: &Table, cube: Cube) -> Option<Table>
 {
     let letter = table.standing();
     let mut expressions = table.expressions;
-    for e in 0..letter {
-        let mut x = expressions[e];
-        match x.share(cube, letter) {
-            Some(_) => expressions[e] = x,
-            None => return None,
-        }
+    for x in &mut expressions[..letter] {
+        x.share(cube, letter)?;
     }
     Some(Table {
         expressions,
@@ -46,19 +46,13 @@ fn share_rows(table: &Table, cube: Cube) -> Option<Table>
 pub fn share_out(table: &Table, cube: Cube) -> Option<Table>
     ensures { elim result [ Some t ↦ SharedOut (power cube) table.now t | None ↦ NotShared table.now ] }
 {
-    let next = match share_rows(table, cube) {
-        Some(next) => next,
-        None => return None,
-    };
+    let next = share_rows(table, cube)?;
     let row = Row {
         cube,
         sign: Sign::Plus,
     };
     match Expression::of(&[row]) {
-        Ok(part) => match next.with_part(part, &sources_of(table, cube)) {
-            Some(made) => Some(made),
-            None => None,
-        },
+        Ok(part) => next.with_part(part, &sources_of(table, cube)),
         Err(_) => unreachable(),
     }
 }

@@ -4,8 +4,8 @@ ghost use Rattle.sharing.specs.Pairs.{Better, spot};
 
 use cubes::Cube;
 
-// A row of a table: its expression, and its place there.
-#[derive(Clone, Copy)]
+// A row of a table: its expression, and its place there. Places are in the order of their expressions, and then of their rows.
+#[derive(Clone, Copy, PartialEq, Eq, PartialOrd, Ord)]
 pub struct Place {
     pub expression: usize,
     pub row: usize,
@@ -27,8 +27,7 @@ impl Place {
         ensures yes { result ≡ true → Ahead (spot self) (spot other) }
         ensures no { result ≡ false → Ahead (spot self) (spot other) → ⊥ }
     {
-        self.expression < other.expression
-            || self.expression == other.expression && self.row < other.row
+        self < other
     }
 }
 

@@ -45,6 +45,7 @@ fn best_second_in(table: &Table, first: Place, e: usize, best: Option<Pair>) -> 
     ensures { KnownSoFar (style_of table.now) (spot first) (at (e + 1) 0) result }
 {
     let mut best = best;
+    // a place is named by its numbers, and the rows are read where a pair is weighed
     for row in 0..table.rows(e).len() {
         let second = Place { expression: e, row };
         if let Some(x) = weigh(table, first, second) {

@@ -1,19 +1,25 @@
 -- Expressions read off a table.
-use Rattle.std.proofs.Common.{◌≡◌, ℕ, ◌+◌, ◌<◌, List, [], map, length, get_or, set, sym, ap, ◌∙◌, add-one, arith}
+use Rattle.std.proofs.Common.{◌≡◌, ℕ, ◌+◌, ◌<◌, List, [], map, length, get_or, take, set, sym, ap, ◌∙◌, add-one, arith, length-take}
 use lib.ListN.{length-map}
-use Rattle.std.proofs.lemmas.List.{get_or-map, get_or-set_other, get_or-set_same, map-set}
+use Rattle.std.proofs.lemmas.List.{get_or-map, get_or-take, get_or-set_other, get_or-set_same, map-set}
 use Rattle.algebra.specs.Sums.{counting, up_to}
 use Rattle.cubes.specs.declared.expression.Expression.{Expression}
 use Rattle.cubes.specs.declared.row.Row.{Row}
 use Rattle.cubes.specs.Expressions.{rows_of}
 use Rattle.table.specs.declared.table.Table.{Table}
-use Rattle.table.specs.Of.{rows_at}
+use Rattle.table.specs.Of.{rows_at, standing_in}
 
 -- the expression read at e has the rows of expression e
 pub rows_read : (t : Table) (e : ℕ) (d : Expression) → e < 32 → rows_of (get_or t.expressions e d) ≡ rows_at t e
 rows_read t e d l =
     let in_range : e < length t.expressions = omega (arith, t.all) in
     sym (get_or-map rows_of t.expressions e d [] in_range)
+
+-- an expression read off those that stand
+pub standing_read : (t : Table) (n i : ℕ) (x : Expression) → n ≡ standing_in t → i < length (take n t.expressions) → x ≡ get_or (take n t.expressions) i x → rows_of x ≡ rows_at t i
+standing_read t n i x is h e =
+    let made : i < n = omega (arith, h, length-take n t.expressions) in
+    ap rows_of (e ∙ get_or-take n t.expressions i x made) ∙ rows_read t i x (omega (arith, made, is, t.few))
 
 -- the rows of the expressions of a list, and those of a list in which one expression is changed
 abbrev pub rows_in : List Expression → ℕ → List Row

@@ -28,6 +28,9 @@ first_or_last named xs = grind (arith, common_steps, prefix_len-le-length (λ x.
 pub put_at : (named : ℕ → Bool) (p n : ℕ) (xs : List ℕ) → n ≡ length xs → insert xs (unwrap_or (position named xs) n) p ≡ put named p xs
 put_at named p n xs h = grind (arith, put_first named p xs, first_or_last named xs)
 
+pub place_within : (named : ℕ → Bool) (n : ℕ) (xs : List ℕ) → n ≡ length xs → unwrap_or (position named xs) n ≤ length xs
+place_within named n xs h = grind (arith, first_or_last named xs, prefix_len-le-length (λ x. not (named x)) xs)
+
 -- there was room
 pub room : (old new : Few ℕ 32) (parts n p : ℕ) → length (listed old) ≡ 16 + parts → n ≤ length (listed old) → listed new ≡ insert (listed old) n p → parts < 16
 room old new parts n p l h e = omega (arith, l, ap length e, length-insert (listed old) n p h, listed_within new)

@@ -1,7 +1,8 @@
-ghost use Rattle.std.specs.Prelude.{◌≡◌, Some, None};
+ghost use Rattle.std.specs.Prelude.{◌≡◌, ◌<◌, ◌⊎◌, Some, None};
 ghost use Rattle.std.specs.List.{position};
 ghost use Rattle.cubes.specs.Expressions.{rows_of};
-ghost use Rattle.table.specs.Adding.{AddsPart, source};
+ghost use Rattle.table.specs.Adding.{AddsPart, AddsPartAt, source};
+ghost use Rattle.table.specs.Of.{standing_in};
 
 use crate::table::Table;
 use cubes::Expression;
@@ -21,13 +22,12 @@ fn first_source(order: &[usize], sources: &[bool]) -> Option<usize>
 }
 
 impl Table {
-    // The table with one part more, which is put just before the first expression in the making order that is marked as one of
-    // its sources; none where sixteen parts stand.
-    pub fn with_part(&self, part: Expression, sources: &[bool]) -> Option<Table>
-        ensures { elim result [ Some t ↦ AddsPart (source sources.now) (rows_of part) self.now t | None ↦ self.now.parts ≡ 16 ] }
+    // The table with one part more, at a place of the making order, before those that stood there and behind; none where
+    // sixteen parts stand, or the order has no such place.
+    pub fn with_part_at(&self, part: Expression, at: usize) -> Option<Table>
+        ensures { elim result [ Some t ↦ AddsPartAt at (rows_of part) self.now t | None ↦ (self.now.parts ≡ 16) ⊎ (standing_in self.now < at) ] }
     {
         let number = self.standing();
-        let at = first_source(self.order(), sources).unwrap_or(number);
         let mut order = self.order;
         let Ok(()) = order.insert(at, number) else {
             return None;
@@ -40,5 +40,14 @@ impl Table {
             parts: self.parts + 1,
             order,
         })
+    }
+
+    // The table with one part more, which is put just before the first expression in the making order that is marked as one of
+    // its sources; none where sixteen parts stand.
+    pub fn with_part(&self, part: Expression, sources: &[bool]) -> Option<Table>
+        ensures { elim result [ Some t ↦ AddsPart (source sources.now) (rows_of part) self.now t | None ↦ self.now.parts ≡ 16 ] }
+    {
+        let at = first_source(self.order(), sources).unwrap_or(self.standing());
+        self.with_part_at(part, at)
     }
 }

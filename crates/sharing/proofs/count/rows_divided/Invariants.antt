@@ -5,5 +5,5 @@ use Rattle.rewriting.specs.Share.{divided}
 use Rattle.table.specs.Of.{style_of}
 use Rattle.sharing.proofs.count.rows_divided.Given as goal
 
-abbrev pub invariant-loop-e : goal.invariant-loop-e
-invariant-loop-e l = (l.n ≡ up_to counting l.e (λ e. divided (power l.cube) ((style_of l.table).expression e))) × (l.n ≤ 8 * l.e)
+abbrev pub invariant-loop-x : goal.invariant-loop-x
+invariant-loop-x l = (l.n ≡ up_to counting l.x-index (λ e. divided (power l.cube) ((style_of l.table).expression e))) × (l.n ≤ 8 * l.x-index)

@@ -1,13 +1,10 @@
-use Rattle.std.proofs.Common.{◌≡◌, ℕ, ◌+◌, ◌<◌, List, sym, refl, ap, ◌∙◌, ap₂, arith, length-take}
-use Rattle.std.proofs.lemmas.List.{get_or-take}
-use Rattle.cubes.specs.declared.expression.Expression.{Expression}
-use Rattle.cubes.specs.Expressions.{rows_of}
+use Rattle.std.proofs.Common.{◌≡◌, ℕ, ◌+◌, List, sym, refl, ap, ◌∙◌, ap₂, arith}
 use Rattle.algebra.specs.Counts.{additions, multiplications, negations}
 use Rattle.algebra.specs.Sums.{counting, up_to}
 use Rattle.cubes.specs.Rows.{as_rows}
 use Rattle.algebra.specs.Rows.{Row as Term}
 use Rattle.table.specs.Of.{style_of}
-use Rattle.table.proofs.Looks.{rows_read, up_to_next}
+use Rattle.table.proofs.Looks.{standing_read, up_to_next}
 use Rattle.table.proofs.table.Table.counts.Goals as goal
 
 pub loop-x-init : goal.loop-x-init
@@ -21,9 +18,7 @@ loop-x-preserved c =
     let more : (count : List Term → ℕ) (n r : ℕ) → n ≡ up_to counting e (λ k. count ((style_of t).expression k)) → r ≡ count ((style_of t).expression e)
     → n + r ≡ up_to counting (e + 1) (λ k. count ((style_of t).expression k))
     = λ count n r p q. ap₂ ◌+◌ p q ∙ sym (up_to_next e (λ k. count ((style_of t).expression k))) in
-    let made : e < c.standing.result = omega (arith, c.loop-x-test.true, length-take c.standing.result t.expressions) in
-    let l : e < 32 = omega (arith, made, c.standing.ensures, t.few) in
-    let here = ap (λ (x : Expression). as_rows (rows_of x)) (c.x-item.is ∙ get_or-take c.standing.result t.expressions e c.x-item.result made) ∙ ap as_rows (rows_read t e c.x-item.result l) in (
+    let here = ap as_rows (standing_read t c.standing.result e c.x-item.result c.standing.ensures c.loop-x-test.true c.x-item.is) in (
       record {
         mul = more multiplications _ _ c.loop-x.invariant.0.mul (c.multiplications.ensures ∙ ap multiplications here);
         add = more additions _ _ c.loop-x.invariant.0.add (c.additions.ensures ∙ ap additions here);
