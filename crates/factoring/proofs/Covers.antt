@@ -1,10 +1,13 @@
 -- Which places are covered.
-use Rattle.std.proofs.Common.{◌≡◌, ℕ, ◌+◌, ◌<◌, ◌≤◌, Bool, true, false, cond, ◌||◌, List, [], ◌∷◌, ◌++◌, length, get_or, drop, sym, refl, ap, ◌∙◌}
-use Rattle.std.proofs.lemmas.List.{at_drop_more, at_drop_all}
-use Rattle.rewriting.specs.Factor.{covered, has, taken_in}
+use Rattle.std.proofs.Common.{◌≡◌, ℕ, Bool, true, false, cond, ◌&&◌, ◌||◌, List, [], ◌∷◌, ◌++◌, nat_eq, sym, refl, ap, ◌∙◌, ap₂, ⊎_elim}
+use Rattle.std.specs.List.{list_any}
+use Rattle.std.proofs.lemmas.Bool.{cases_eq, eq-eqb, ne_eqb}
+use Rattle.few.specs.Listed.{listed}
+use Rattle.rewriting.specs.Factor.{Taken, covered, has, taken_in}
+use Rattle.rewriting.specs.Order.{factored_from}
 use Rattle.rewriting.specs.Styles.{equal}
 use Rattle.rewriting.proofs.Parts.{equal_apart, equal_refl}
-use Rattle.factoring.specs.Takens.{as_taken, as_takens, listed}
+use Rattle.factoring.specs.Takens.{as_taken, as_takens}
 use Rattle.factoring.specs.declared.taken.TakenKernel.{TakenKernel}
 
 or_assoc : (a b c : Bool) → ((a || b) || c) ≡ (a || (b || c))
@@ -18,22 +21,31 @@ has_append (x ∷ xs) ys k = ap (λ (b : Bool). equal k x || b) (has_append xs y
 pub equal_from : (m n : ℕ) → m ≡ n → equal m n ≡ true
 equal_from m n e = ap (λ (k : ℕ). equal m k) (sym e) ∙ equal_refl m
 
-module _ (e p : ℕ) where
-  abbrev pub covers : List TakenKernel → Bool
-  covers ts = has (covered (taken_in e (as_takens ts))) p
+equal_eqb : (m n : ℕ) → equal m n ≡ nat_eq n m
+equal_eqb m n =
+    ⊎_elim (λ e. equal_from m n e ∙ sym (eq-eqb n m (sym e)))
+    (λ e. equal_apart m n e ∙ sym (ne_eqb n m (λ q. e (sym q))))
+    (cases_eq m n)
 
-  covers_head : (t : TakenKernel) (ts : List TakenKernel) (b : Bool) → equal e t.expression ≡ b → covers (t ∷ ts) ≡ has (covered (cond b (as_taken t ∷ taken_in e (as_takens ts)) (taken_in e (as_takens ts)))) p
-  covers_head t ts b q = ap (λ (v : Bool). has (covered (cond v (as_taken t ∷ taken_in e (as_takens ts)) (taken_in e (as_takens ts)))) p) q
+has_any : (xs : List ℕ) (k : ℕ) → list_any (λ y. nat_eq y k) xs ≡ has xs k
+has_any [] k = refl
+has_any (x ∷ xs) k = ap₂ ◌||◌ (sym (equal_eqb k x)) (has_any xs k)
 
-  module _ (ts : List TakenKernel) (i : ℕ) (t : TakenKernel) (h : i < length ts) (is : t ≡ get_or ts i t) where
-    step : covers (drop i ts) ≡ covers (t ∷ drop (i + 1) ts)
-    step = at_drop_more covers ts i t h ∙ ap (λ (u : TakenKernel). covers (u ∷ drop (i + 1) ts)) (sym is)
+-- a place is covered where some kernel of the expression covers it
+pub covers_any : (e p : ℕ) (ts : List TakenKernel)
+    → list_any (λ (t : TakenKernel). nat_eq t.expression e && list_any (λ y. nat_eq y p) (listed t.places)) ts ≡ has (covered (taken_in e (as_takens ts))) p
+covers_any e p [] = refl
+covers_any e p (t ∷ ts) =
+    ap₂ (λ (b : Bool) (v : Bool). (b && list_any (λ y. nat_eq y p) (listed t.places)) || v) (sym (equal_eqb e t.expression)) (covers_any e p ts) ∙ go (equal e t.expression)
+  where
+    rest : List Taken
+    rest = taken_in e (as_takens ts)
 
-    pub covers_own : t.expression ≡ e → covers (drop i ts) ≡ (has (listed t.places) p || covers (drop (i + 1) ts))
-    covers_own q = step ∙ covers_head t (drop (i + 1) ts) true (equal_from e t.expression (sym q)) ∙ has_append (listed t.places) (covered (taken_in e (as_takens (drop (i + 1) ts)))) p
+    go : (b : Bool) → ((b && list_any (λ y. nat_eq y p) (listed t.places)) || has (covered rest) p) ≡ has (covered (cond b (as_taken t ∷ rest) rest)) p
+    go true = ap (λ (v : Bool). v || has (covered rest) p) (has_any (listed t.places) p) ∙ sym (has_append (listed t.places) (covered rest) p)
+    go false = refl
 
-    pub covers_other : (t.expression ≡ e → ⊥) → covers (drop i ts) ≡ covers (drop (i + 1) ts)
-    covers_other q = step ∙ covers_head t (drop (i + 1) ts) false (equal_apart e t.expression (λ w. q (sym w)))
-
-  pub covers_end : (ts : List TakenKernel) (i : ℕ) → length ts ≤ i → covers (drop i ts) ≡ false
-  covers_end ts i h = at_drop_all covers ts i h
+-- an expression is a source where some kernel is taken from it
+pub source_any : (e : ℕ) (ts : List TakenKernel) → list_any (λ (t : TakenKernel). nat_eq t.expression e) ts ≡ factored_from (as_takens ts) e
+source_any e [] = refl
+source_any e (t ∷ ts) = ap₂ ◌||◌ (sym (equal_eqb e t.expression)) (source_any e ts)

@@ -3,6 +3,5 @@ pub mod Products
 pub mod Covers
 pub mod Looks
 pub mod Rests
-pub mod Puts
 pub mod Likes
 pub mod Wholes

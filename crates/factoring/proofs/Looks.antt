@@ -10,8 +10,9 @@ use Rattle.rewriting.specs.Taking.{Kernel as Named, found, has_columns, spot, sp
 use Rattle.cubes.specs.Powers.{power}
 use Rattle.cubes.specs.Rows.{as_row, as_rows, no_row}
 use Rattle.cubes.specs.declared.row.Row.{Row}
-use Rattle.factoring.specs.Takens.{all_open, as_kernel, as_kernels, as_taken, as_takens, listed, looked, open_at}
-use Rattle.factoring.specs.declared.places.Places.{Places}
+use Rattle.factoring.specs.Takens.{all_open, as_kernel, as_kernels, as_taken, as_takens, looked, open_at}
+use Rattle.few.specs.declared.few.Few.{Few}
+use Rattle.few.specs.Listed.{listed}
 use Rattle.factoring.specs.declared.taken.TakenKernel.{TakenKernel}
 use Rattle.kernels.specs.Kernels.{no_kernel}
 use Rattle.kernels.specs.declared.kernel.Kernel.{Kernel}
@@ -61,7 +62,7 @@ module _ (s : Style) (columns : List Term) where
       ∙ sym (at_drop_more (λ (zs : List Kernel). taken_after s columns ts (as_kernels zs)) ks i no_kernel h)
 
 -- the kernel is taken, in terms of a table
-pub taken_from : (t : Table) (columns : List Term) (k : Kernel) (ps : Places) (rows : List Row) (us old new : List TakenKernel)
+pub taken_from : (t : Table) (columns : List Term) (k : Kernel) (ps : Few ℕ 8) (rows : List Row) (us old new : List TakenKernel)
     → rows ≡ rows_at t k.expression → us ≡ old → new ≡ old ++ record { expression = k.expression; cokernel = k.cokernel; places = ps } ∷ []
     → all_open (as_rows rows) (power k.cokernel) (covered (taken_in k.expression (as_takens us))) columns ≡ true → listed ps ≡ spots (as_rows rows) (power k.cokernel) columns
     → as_takens new ≡ looked (style_of t) columns (as_takens old) (as_kernel k)

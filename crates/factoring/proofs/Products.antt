@@ -1,13 +1,14 @@
 -- Rows that are alike, as a test; the first row that is a product.
-use Rattle.std.proofs.Common.{◌≡◌, ℕ, zero, suc, ◌+◌, ◌<◌, Bool, true, false, cond, ◌||◌, eqb, List, length, get_or, drop, sym, refl, ap, ◌∙◌, ⊎_elim, arith}
-use Rattle.std.proofs.lemmas.List.{at_drop_more}
-use Rattle.std.proofs.lemmas.Bool.{and_from, and_parts, both_ways, cases_Bool, cases_eq, cond-true, cond-false, eq-eqb, eqb-true, or_left}
+use Rattle.std.proofs.Common.{◌≡◌, ℕ, zero, suc, ◌+◌, ◌<◌, Bool, true, false, cond, ◌||◌, eqb, not, List, [], ◌∷◌, length, nat_lt, Some, None, Option, sym, refl, ap, ◌∙◌, subst, ⊎_elim, arith}
+use Rattle.std.specs.List.{position, position_or_len}
+use Rattle.std.proofs.lemmas.Grind.{common_steps}
+use Rattle.std.proofs.lemmas.Bool.{and_from, and_parts, both_ways, cases_Bool, cases_eq, eq-eqb, eqb-true, lt-ltb}
 use Rattle.algebra.specs.Cubes.{Powers, Same, letters}
 use Rattle.algebra.specs.Rows.{Alike, Row as Term}
 use Rattle.rewriting.specs.Factor.{product_row}
 use Rattle.rewriting.specs.Taking.{alike, found, same_below, same_sign, spot}
 use Rattle.cubes.specs.Powers.{Divided, Misses, power}
-use Rattle.cubes.specs.Rows.{as_row, as_rows, minus, no_row}
+use Rattle.cubes.specs.Rows.{as_row, as_rows, minus}
 use Rattle.cubes.specs.declared.cube.Cube.{Cube}
 use Rattle.cubes.specs.declared.row.Row.{Row}
 
@@ -63,21 +64,35 @@ module _ (x : Row) (c : Cube) (column : Row) where
       tests_same false _ (λ t. absurd (both_ways false refl t))
       (λ t. absurd (omega (arith, m.2, (alike_true (as_row x) (product_row (power c) (as_row column)) t).cubes m.0 m.1)))
 
-module _ (rows : List Row) (k : ℕ) (r : Term) (h : k < length rows) where
-  found_step : found (as_rows (drop k rows)) r ≡ (alike (as_row (get_or rows k no_row)) r || found (as_rows (drop (k + 1) rows)) r)
-  found_step = at_drop_more (λ (xs : List Row). found (as_rows xs) r) rows k no_row h
+-- the first row that is like another
+module _ (r : Term) where
+  abbrev pub like : Row → Bool
+  like x = alike (as_row x) r
 
-  spot_step : spot (as_rows (drop k rows)) r ≡ cond (alike (as_row (get_or rows k no_row)) r) 0 (suc (spot (as_rows (drop (k + 1) rows)) r))
-  spot_step = at_drop_more (λ (xs : List Row). spot (as_rows xs) r) rows k no_row h
+  found_is : (xs : List Row) → found (as_rows xs) r ≡ nat_lt (position_or_len like xs) (length xs)
+  found_is [] = refl
+  found_is (x ∷ xs) = go (like x) (found_is xs)
+    where
+      go : (b : Bool) → found (as_rows xs) r ≡ nat_lt (position_or_len like xs) (length xs)
+          → (b || found (as_rows xs) r) ≡ nat_lt (cond (not b) (1 + position_or_len like xs) 0) (length (x ∷ xs))
+      go true h = sym (lt-ltb 0 (length (x ∷ xs)) (omega arith))
+      go false h = h ∙ grind (arith, common_steps)
 
-  pub found_at : alike (as_row (get_or rows k no_row)) r ≡ true → found (as_rows (drop k rows)) r ≡ true
-  found_at e = found_step ∙ or_left _ _ e
+  spot_is : (xs : List Row) → spot (as_rows xs) r ≡ position_or_len like xs
+  spot_is [] = refl
+  spot_is (x ∷ xs) = go (like x) (spot_is xs)
+    where
+      go : (b : Bool) → spot (as_rows xs) r ≡ position_or_len like xs → cond b 0 (suc (spot (as_rows xs) r)) ≡ cond (not b) (1 + position_or_len like xs) 0
+      go true h = refl
+      go false h = omega (arith, h)
 
-  pub spot_at : alike (as_row (get_or rows k no_row)) r ≡ true → spot (as_rows (drop k rows)) r ≡ 0
-  spot_at e = spot_step ∙ cond-true _ _ _ e
-
-  pub found_past : alike (as_row (get_or rows k no_row)) r ≡ false → found (as_rows (drop k rows)) r ≡ found (as_rows (drop (k + 1) rows)) r
-  found_past e = found_step ∙ ap (λ (b : Bool). b || found (as_rows (drop (k + 1) rows)) r) e
-
-  pub spot_past : alike (as_row (get_or rows k no_row)) r ≡ false → spot (as_rows (drop k rows)) r ≡ suc (spot (as_rows (drop (k + 1) rows)) r)
-  spot_past e = spot_step ∙ cond-false _ _ _ e
+  pub first_like : (xs : List Row) (o : Option ℕ) → o ≡ position like xs
+      → elim o as (λ _. Type 0) [ Some k ↦ (found (as_rows xs) r ≡ true) × (k ≡ spot (as_rows xs) r) | None ↦ found (as_rows xs) r ≡ false ]
+  first_like xs o h =
+      subst (λ (o : Option ℕ). elim o as (λ _. Type 0) [ Some k ↦ (found (as_rows xs) r ≡ true) × (k ≡ spot (as_rows xs) r) | None ↦ found (as_rows xs) r ≡ false ]) (sym h)
+      (go (nat_lt (position_or_len like xs) (length xs)) (found_is xs))
+    where
+      go : (b : Bool) → found (as_rows xs) r ≡ b
+          → elim (cond b (Some (position_or_len like xs)) None) as (λ _. Type 0) [ Some k ↦ (found (as_rows xs) r ≡ true) × (k ≡ spot (as_rows xs) r) | None ↦ found (as_rows xs) r ≡ false ]
+      go true f = (f, sym (spot_is xs))
+      go false f = f

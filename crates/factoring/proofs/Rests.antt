@@ -1,5 +1,5 @@
 -- What is left of an expression's rows, and what is appended.
-use Rattle.std.proofs.Common.{◌≡◌, ℕ, suc, ◌+◌, ◌<◌, ◌≤◌, Bool, true, false, cond, List, [], ◌∷◌, ◌++◌, map, length, get_or, drop, sym, refl, ap, ◌∙◌, subst, add-zero, arith}
+use Rattle.std.proofs.Common.{◌≡◌, ℕ, suc, ◌+◌, ◌<◌, ◌≤◌, Bool, true, false, cond, List, [], ◌∷◌, ◌++◌, map, length, get_or, drop, sym, refl, ap, ◌∙◌, subst, add-zero, Some, None, Option, Ok, Err, Result, arith}
 use Rattle.std.specs.List.{AllZip, ContainsAt as Has}
 use Rattle.std.proofs.lemmas.List.{append_assoc, append-nil, at_drop_all, at_drop_more, get_or-map, length-map, map_push}
 use Rattle.std.proofs.lemmas.List.Elements.{AllZip-get_or, length_all_zip}
@@ -10,7 +10,9 @@ use Rattle.algebra.proofs.Degrees.{same_refl}
 use Rattle.rewriting.specs.Factor.{taken_in, without}
 use Rattle.rewriting.specs.Styles.{equal}
 use Rattle.rewriting.proofs.Parts.{equal_apart}
-use Rattle.cubes.specs.Expressions.{Unfit}
+use Rattle.std.specs.Result.{result_ok}
+use Rattle.cubes.specs.Expressions.{Unfit, rows_of}
+use Rattle.cubes.specs.declared.expression.Expression.{Expression}
 use Rattle.cubes.specs.Rows.{Apart, as_row, as_rows, no_row, powers_at}
 use Rattle.cubes.specs.declared.expression.Refused.{Refused}
 use Rattle.cubes.specs.declared.row.Row.{Row}
@@ -117,3 +119,12 @@ module _ (xs : List Term) (ys : List Row) (a : AllZip Alike xs (as_rows ys)) whe
 
   pub crowded : (why : Refused) → Unfit why ys → Crowded xs
   crowded why u few d = fits ys why u (omega (arith, same_length)) (apart d)
+
+-- an expression of these rows, or the reason that there is none
+pub made_anew : (want : List Term) (rows : List Row) (r : Result Expression Refused) (o : Option Expression) (U : Type 0) → AllZip Alike want (as_rows rows)
+    → elim r as (λ _. Type 0) [ Ok x ↦ rows_of x ≡ rows | Err why ↦ Unfit why rows ] → o ≡ result_ok r → (Crowded want → U)
+    → elim o as (λ _. Type 0) [ Some x ↦ AllZip Alike want (as_rows (rows_of x)) | None ↦ U ]
+made_anew want rows (Ok x) o U a v h u =
+    subst (λ (p : Option Expression). elim p as (λ _. Type 0) [ Some y ↦ AllZip Alike want (as_rows (rows_of y)) | None ↦ U ]) (sym h) (subst (λ (ys : List Row). AllZip Alike want (as_rows ys)) (sym v) a)
+made_anew want rows (Err why) o U a v h u =
+    subst (λ (p : Option Expression). elim p as (λ _. Type 0) [ Some y ↦ AllZip Alike want (as_rows (rows_of y)) | None ↦ U ]) (sym h) (u (crowded want rows a why v))

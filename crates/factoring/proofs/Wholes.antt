@@ -1,8 +1,8 @@
 -- The table with one part more.
-use Rattle.std.proofs.Common.{◌≡◌, ℕ, zero, suc, ◌+◌, ◌<◌, ◌≤◌, Bool, ◌≢◌, ◌⊎◌, List, [], ◌∷◌, map, length, get_or, take, set, sym, ap, ◌∙◌, subst, inl, inr, arith, below_more}
+use Rattle.std.proofs.Common.{◌≡◌, ℕ, zero, suc, ◌+◌, ◌<◌, ◌≤◌, Bool, ◌≢◌, ◌⊎◌, List, [], ◌∷◌, map, length, get_or, set, Some, None, Option, sym, ap, ◌∙◌, subst, inl, inr, arith, below_more}
 use Rattle.std.specs.List.{AllZip}
 use Rattle.std.proofs.lemmas.List.Elements.{length_all_zip}
-use Rattle.std.proofs.lemmas.List.{get_or-map, get_or-set_other, get_or-set_same, length-map, length-take, length-take-le, map-set}
+use Rattle.std.proofs.lemmas.List.{get_or-map, get_or-set_other, get_or-set_same, length-map, length-take, map-set}
 use Rattle.std.proofs.lemmas.Bool.{cases_eq}
 use Rattle.algebra.specs.Counts.{all_negative}
 use Rattle.algebra.specs.Cubes.{Powers, Same, letter, unit}
@@ -22,10 +22,12 @@ use Rattle.rewriting.specs.Presses.{Like}
 use Rattle.rewriting.specs.Taking.{Kernel as Named, taken_by}
 use Rattle.rewriting.proofs.Parts.{at_new, at_old}
 use Rattle.sheet.specs.Numerals.{numerals_list}
+use Rattle.few.specs.Listed.{listed}
+use Rattle.table.specs.Adding.{AddsPart}
 use Rattle.table.specs.Of.{order_of, rows_at, standing_in, style_of}
 use Rattle.table.specs.declared.table.Table.{Table}
 use Rattle.factoring.specs.Factoring.{Factors, TakesOut, Unfactored, Untaken, crowded, no_part, set_in, taken_for, too_high}
-use Rattle.factoring.specs.Rewrites.{AllAnew, Crowded, OneUnmade, Overflows, PartAdded, anew}
+use Rattle.factoring.specs.Rewrites.{AllAnew, Crowded, OneUnmade, Overflows, anew}
 use Rattle.factoring.specs.Takens.{as_kernel, as_kernels}
 use Rattle.factoring.specs.declared.factored.Factored.{Factored}
 use Rattle.factoring.proofs.Likes.{anew_alike, crowded_alike, each_refl, each_trans, factored_alike, like_alike, taken_alike}
@@ -52,7 +54,7 @@ module _ (es : List Expression) (i : ℕ) (x : Expression) (h : i < length es) w
 -- ---- all expressions, and the part
 
 module _ (t : Table) (columns : List Term) (taken : List Taken) (negative : Bool) (part : Powers) (e : negative ≡ all_negative columns) (f : Same part (letter (standing_in t))) where
-  pub factors : (next new : Table) (rows : List Row) → as_rows rows ≡ part_rows columns → AllAnew negative part taken t next → PartAdded taken rows next new → Factors t columns taken new
+  pub factors : (next new : Table) (rows : List Row) → as_rows rows ≡ part_rows columns → AllAnew negative part taken t next → AddsPart (factored_from taken) rows next new → Factors t columns taken new
   factors next new rows q a b = record {
     style = record {
       numerals = ap numerals_list (sym (b.numerals ∙ a.numerals));
@@ -68,8 +70,8 @@ module _ (t : Table) (columns : List Term) (taken : List Taken) (negative : Bool
 
       order : put (factored_from taken) (standing_in next) (order_of next) ≡ put (factored_from taken) (standing_in t) (order_of t)
       order =
-          ap (λ (n : ℕ). put (factored_from taken) (16 + n) (take (16 + n) next.order)) a.parts
-          ∙ ap (λ (xs : List ℕ). put (factored_from taken) (standing_in t) (take (standing_in t) xs)) a.order
+          ap (λ (n : ℕ). put (factored_from taken) (16 + n) (order_of next)) a.parts
+          ∙ ap (put (factored_from taken) (standing_in t)) (ap listed a.order)
 
       here : rows_at new (standing_in t) ≡ rows
       here = ap (λ (n : ℕ). rows_at new (16 + n)) (sym a.parts) ∙ b.part_rows
@@ -87,6 +89,13 @@ module _ (t : Table) (columns : List Term) (taken : List Taken) (negative : Bool
           (subst (λ (xs : List Row). AllZip Alike (old k) (as_rows xs)) (sym (b.rows k lt'))
           (each_trans (old k) (anew negative part (taken_in k taken) (as_rows (rows_at t k))) (as_rows (rows_at next k))
           (anew_alike (standing_in t) columns negative part e f (taken_in k taken) (as_rows (rows_at t k))) (a.rows k lt)))
+
+  -- the part put in, or there is no room for it
+  pub ends : (next : Table) (rows : List Row) (r : Option Table) → as_rows rows ≡ part_rows columns → AllAnew negative part taken t next
+      → elim r as (λ _. Type 0) [ Some u ↦ AddsPart (factored_from taken) rows next u | None ↦ next.parts ≡ 16 ]
+      → elim r as (λ _. Type 0) [ Some u ↦ Factors t columns taken u | None ↦ Unfactored t columns taken ]
+  ends next rows None q a h = no_part (sym a.parts ∙ h)
+  ends next rows (Some u) q a h = factors next u rows q a h
 
   pub unmade : OneUnmade negative part taken t → Unfactored t columns taken
   unmade (k, l, inl o) = too_high (o.0, o.1, (o.2.0, o.2.1, omega (arith, o.2.2, f o.2.0 o.2.1)))
@@ -113,12 +122,18 @@ few_rows t e = go t.expressions e
     go (x ∷ es) (suc k) = go es k
 
 module _ (t : Table) (kernels : List Kernel) (p n : ℕ) (h : p < length kernels) where
-  pub set_alike : (columns rows : List Row) → rows ≡ rows_at t (get_or kernels p no_kernel).expression
+  set_alike_at : (columns rows : List Row) → rows ≡ rows_at t (get_or kernels p no_kernel).expression
       → AllZip Alike (named_by n (quotients (power (get_or kernels p no_kernel).cokernel) (as_rows rows))) (as_rows columns) → AllZip Alike (set_in t kernels p n) (as_rows columns)
-  set_alike columns rows e a =
+  set_alike_at columns rows e a =
       subst (λ (k : Named). AllZip Alike (named_by n (quotients k.co_kernel (as_rows (rows_at t k.expression)))) (as_rows columns))
       (sym (get_or-map as_kernel kernels p no_kernel (record { expression = 0; co_kernel = unit }) h))
       (subst (λ (xs : List Row). AllZip Alike (named_by n (quotients (power (get_or kernels p no_kernel).cokernel) (as_rows xs))) (as_rows columns)) e a)
+
+  pub set_alike : (k : Kernel) → k ≡ get_or kernels p no_kernel → (columns rows : List Row) → rows ≡ rows_at t k.expression
+      → AllZip Alike (named_by n (quotients (power k.cokernel) (as_rows rows))) (as_rows columns) → AllZip Alike (set_in t kernels p n) (as_rows columns)
+  set_alike k is columns rows e a =
+      set_alike_at columns rows (e ∙ ap (λ (x : Kernel). rows_at t x.expression) is)
+      (subst (λ (x : Kernel). AllZip Alike (named_by n (quotients (power x.cokernel) (as_rows rows))) (as_rows columns)) is a)
 
   module _ (columns : List Term) (taken : List Taken) (a : AllZip Alike (set_in t kernels p n) columns) (b : taken ≡ taken_by (style_of t) columns (as_kernels kernels)) where
     same_taken : taken ≡ taken_for t kernels p n
@@ -141,14 +156,3 @@ module _ (t : Table) (kernels : List Kernel) (p n : ℕ) (h : p < length kernels
         inr (crowded e l (subst (λ (ts : List Taken). Crowded ((factored (style_of t) (set_in t kernels p n) ts).expression e)) same_taken
         (crowded_alike ((factored (style_of t) (set_in t kernels p n) taken).expression e) ((factored (style_of t) columns taken).expression e) (factored_alike (style_of t) (set_in t kernels p n) columns a taken e) c)))
     untaken (too_high o) = inr (too_high (subst (λ (ts : List Taken). Overflows ts (letter (standing_in t))) same_taken o))
-
--- ---- the order of a table
-
-pub order_more : (named : ℕ → Bool) (m n parts : ℕ) (xs new : List ℕ) → m ≡ 16 + parts → n ≡ 16 + parts → 16 + parts ≤ length xs
-    → take (length (take m xs) + 1) new ≡ put named n (take m xs) → take (16 + (parts + 1)) new ≡ put named (16 + parts) (take (16 + parts) xs)
-order_more named m n parts xs new e f h p =
-    ap (λ (k : ℕ). take k new) long
-    ∙ subst (λ (k : ℕ). take (length (take k xs) + 1) new ≡ put named (16 + parts) (take k xs)) e (subst (λ (k : ℕ). take (length (take m xs) + 1) new ≡ put named k (take m xs)) f p)
-  where
-    long : 16 + (parts + 1) ≡ length (take (16 + parts) xs) + 1
-    long = omega (arith, length-take-le (16 + parts) xs h)

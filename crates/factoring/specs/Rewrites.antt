@@ -1,14 +1,12 @@
 -- Expressions anew, for a part that is given by its powers.
-use Rattle.std.specs.Prelude.{◌≡◌, ℕ, ◌+◌, ◌<◌, ◌≤◌, Bool, ◌⊎◌, List, ◌++◌, map, length}
+use Rattle.std.specs.Prelude.{◌≡◌, ℕ, ◌<◌, ◌≤◌, Bool, ◌⊎◌, List, ◌++◌, map, length}
 use Rattle.std.specs.List.{AllZip, ContainsAt as Has}
 use Rattle.algebra.specs.Cubes.{Powers, product}
 use Rattle.algebra.specs.Rows.{Alike, Distinct, Row as Term}
 use Rattle.cubes.specs.Powers.{Passes}
 use Rattle.cubes.specs.Rows.{as_rows, most_rows}
-use Rattle.cubes.specs.declared.row.Row.{Row}
 use Rattle.rewriting.specs.Factor.{Taken, covered, has, taken_in, without}
-use Rattle.rewriting.specs.Order.{factored_from, put}
-use Rattle.table.specs.Of.{order_of, rows_at, standing_in}
+use Rattle.table.specs.Of.{rows_at, standing_in}
 use Rattle.table.specs.declared.table.Table.{Table}
 
 -- the row that stands for a taken kernel: co-kernel times part
@@ -40,11 +38,3 @@ pub record AllAnew (negative : Bool) (part : Powers) (taken : List Taken) (old n
 
 abbrev pub OneUnmade : Bool → Powers → List Taken → Table → Type 0
 OneUnmade negative part taken old = (e : ℕ) × (e < standing_in old) × Unmade negative part taken e (as_rows (rows_at old e))
-
--- one part more: its rows, and its place in the order
-pub record PartAdded (taken : List Taken) (part : List Row) (old new : Table) : Type 0 where
-  pub rows : (e : ℕ) → e < standing_in old → rows_at new e ≡ rows_at old e
-  pub part_rows : rows_at new (standing_in old) ≡ part
-  pub numerals : new.numerals ≡ old.numerals
-  pub parts : new.parts ≡ old.parts + 1
-  pub order : order_of new ≡ put (factored_from taken) (standing_in old) (order_of old)

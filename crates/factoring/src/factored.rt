@@ -1,12 +1,10 @@
-ghost use Rattle.std.specs.Prelude.{◌<◌, IfOk, Some, None};
-ghost use Rattle.cubes.specs.Expressions.{rows_of};
+ghost use Rattle.std.specs.Prelude.{IfOk, Some, None};
 ghost use Rattle.cubes.specs.Rows.{as_rows};
 ghost use Rattle.factoring.specs.Factoring.{Factors, TakesOut, Unfactored, Untaken};
-ghost use Rattle.factoring.specs.Rewrites.{PartAdded};
 ghost use Rattle.factoring.specs.Takens.{as_takens};
 
 use crate::columns::named_columns;
-use crate::order::with_part;
+use crate::order::first_source;
 use crate::part::{common_sign, rows_of_part};
 use crate::rewritten::rewrite_all;
 use crate::taken::TakenKernel;
@@ -24,23 +22,6 @@ pub struct Factored {
     pub columns: usize,
 }
 
-// Adds the part, just before the first expression in the order that it is taken from.
-fn add_part(table: Table, part: Expression, taken: &[TakenKernel]) -> Table
-    requires { table.parts < 16 }
-    ensures { PartAdded (as_takens taken.now) (rows_of part) table result }
-{
-    let number = table.standing();
-    let order = with_part(&table.order[0..number], number, taken);
-    let mut expressions = table.expressions;
-    expressions[number] = part;
-    Table {
-        expressions,
-        numerals: table.numerals,
-        parts: table.parts + 1,
-        order,
-    }
-}
-
 // The table with the columns as one part more, and the taken kernels replaced.
 fn factor(
     table: &Table,
@@ -50,20 +31,22 @@ fn factor(
 ) -> Result<Option<Table>, AllocError>
     ensures { IfOk result (λ o. elim o [ Some x ↦ Factors table.now (as_rows columns.now) (as_takens taken.now) x | None ↦ Unfactored table.now (as_rows columns.now) (as_takens taken.now) ]) }
 {
-    let letter = match Cube::letter(table.standing()) {
-        Some(letter) => letter,
-        None => return Ok(None),
+    let Some(letter) = Cube::letter(table.standing()) else {
+        return Ok(None);
     };
-    let sign = common_sign(columns);
-    let anew = match rewrite_all(table, taken, letter, sign, heap)? {
-        Some(anew) => anew,
-        None => return Ok(None),
+    let row = Row {
+        cube: letter,
+        sign: common_sign(columns),
+    };
+    let Some(anew) = rewrite_all(table, taken, row, heap)? else {
+        return Ok(None);
     };
     let rows = rows_of_part(columns, heap)?;
-    match Expression::of(rows.as_slice()) {
-        Ok(part) => Ok(Some(add_part(anew, part, taken))),
-        Err(_) => Ok(None),
-    }
+    let Ok(part) = Expression::of(rows.as_slice()) else {
+        return Ok(None);
+    };
+    let at = first_source(anew.order(), taken).unwrap_or(anew.standing());
+    Ok(anew.with_part_at(part, at))
 }
 
 // Takes the columns that the binary number `set` names of the kernel at a place through the list of kernels, and makes them
@@ -78,18 +61,17 @@ pub fn take_out(
 ) -> Result<Option<Factored>, AllocError>
     ensures { IfOk result (λ o. elim o [ Some f ↦ TakesOut table.now kernels.now place set f | None ↦ Untaken table.now kernels.now place set ]) }
 {
-    if place >= kernels.len() {
+    let Some(kernel) = kernels.get(place) else {
         return Ok(None);
-    }
-    let kernel = kernels[place];
+    };
     let columns = named_columns(table.rows(kernel.expression), kernel.cokernel, set, heap)?;
     let taken = take_all(table, kernels, columns.as_slice(), heap)?;
-    match factor(table, columns.as_slice(), taken.as_slice(), heap)? {
-        Some(next) => Ok(Some(Factored {
-            table: next,
-            rows: taken.len(),
-            columns: columns.len(),
-        })),
-        None => Ok(None),
-    }
+    let Some(next) = factor(table, columns.as_slice(), taken.as_slice(), heap)? else {
+        return Ok(None);
+    };
+    Ok(Some(Factored {
+        table: next,
+        rows: taken.len(),
+        columns: columns.len(),
+    }))
 }

@@ -5,7 +5,6 @@ mod columns;
 mod factored;
 mod order;
 mod part;
-mod places;
 mod rewritten;
 mod taken;
 mod taking;

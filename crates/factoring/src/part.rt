@@ -3,19 +3,18 @@ ghost use Rattle.algebra.specs.Counts.{all_negative};
 ghost use Rattle.cubes.specs.Rows.{as_rows, minus};
 ghost use Rattle.rewriting.specs.Factor.{part_rows, positive};
 
-use cubes::{Row, Sign};
+use cubes::{Row, Sign, all_minus};
 use std::alloc::{AllocError, Global};
 
 // The sign of the rows that stand for the columns: negative where all columns are.
 pub(crate) fn common_sign(columns: &[Row]) -> Sign
     ensures { minus result ≡ all_negative (as_rows columns.now) }
 {
-    for row in columns {
-        if let Sign::Plus = row.sign {
-            return Sign::Plus;
-        }
+    if all_minus(columns) {
+        Sign::Minus
+    } else {
+        Sign::Plus
     }
-    Sign::Minus
 }
 
 // the rows without their signs

@@ -11,7 +11,7 @@ ghost use Rattle.factoring.specs.Takens.{as_takens};
 
 use crate::taken::TakenKernel;
 use crate::taking::is_covered;
-use cubes::{Cube, Expression, Row, Sign};
+use cubes::{Expression, Row};
 use std::alloc::{AllocError, Global};
 use table::Table;
 
@@ -25,31 +25,31 @@ fn rows_left(
     ensures { IfOk result (λ v. as_rows v.items ≡ without (has (covered (taken_in e (as_takens taken.now)))) (as_rows rows.now)) }
 {
     let mut rest = Vec::new(heap);
-    for k in 0..rows.len() {
+    for (k, row) in rows.iter().enumerate() {
         if !is_covered(taken, e, k) {
-            rest.push(rows[k])?;
+            rest.push(*row)?;
         }
     }
     Ok(rest)
 }
 
-// Appends co-kernel times part for each taken kernel of expression e, unless a product is too high.
+// Appends co-kernel times part, with the part's sign, for each taken kernel of expression e, unless a product is too high.
 fn with_products(
     rows: Vec<Row>,
     e: usize,
     taken: &[TakenKernel],
-    part: Cube,
-    sign: Sign,
+    part: Row,
 ) -> Result<Option<Vec<Row>>, AllocError>
-    ensures { IfOk result (λ o. elim o [ Some v ↦ AllZip Alike (as_rows rows.items ++ map (part_row (minus sign) (power part)) (taken_in e (as_takens taken.now))) (as_rows v.items) | None ↦ Overflows (as_takens taken.now) (power part) ]) }
+    ensures { IfOk result (λ o. elim o [ Some v ↦ AllZip Alike (as_rows rows.items ++ map (part_row (minus part.sign) (power part.cube)) (taken_in e (as_takens taken.now))) (as_rows v.items) | None ↦ Overflows (as_takens taken.now) (power part.cube) ]) }
 {
+    let Row { cube: letter, sign } = part;
     let mut rows = rows;
     for t in taken {
         if t.expression == e {
-            match t.cokernel.multiply(part) {
-                Some(cube) => rows.push(Row { cube, sign })?,
-                None => return Ok(None),
-            }
+            let Some(cube) = t.cokernel.multiply(letter) else {
+                return Ok(None);
+            };
+            rows.push(Row { cube, sign })?;
         }
     }
     Ok(Some(rows))
@@ -60,44 +60,38 @@ fn rewrite(
     table: &Table,
     e: usize,
     taken: &[TakenKernel],
-    part: Cube,
-    sign: Sign,
+    part: Row,
     heap: Global,
 ) -> Result<Option<Expression>, AllocError>
-    ensures { IfOk result (λ o. elim o [ Some x ↦ AllZip Alike (anew (minus sign) (power part) (taken_in e (as_takens taken.now)) (as_rows (rows_at table.now e))) (as_rows (rows_of x)) | None ↦ Unmade (minus sign) (power part) (as_takens taken.now) e (as_rows (rows_at table.now e)) ]) }
+    ensures { IfOk result (λ o. elim o [ Some x ↦ AllZip Alike (anew (minus part.sign) (power part.cube) (taken_in e (as_takens taken.now)) (as_rows (rows_at table.now e))) (as_rows (rows_of x)) | None ↦ Unmade (minus part.sign) (power part.cube) (as_takens taken.now) e (as_rows (rows_at table.now e)) ]) }
 {
     let rest = rows_left(table.rows(e), e, taken, heap)?;
-    match with_products(rest, e, taken, part, sign)? {
-        Some(rows) => match Expression::of(rows.as_slice()) {
-            Ok(expression) => Ok(Some(expression)),
-            Err(_) => Ok(None),
-        },
-        None => Ok(None),
-    }
+    let Some(rows) = with_products(rest, e, taken, part)? else {
+        return Ok(None);
+    };
+    Ok(Expression::of(rows.as_slice()).ok())
 }
 
 // Every expression that stands anew; the numerals, the parts and the order stay.
 pub(crate) fn rewrite_all(
     table: &Table,
     taken: &[TakenKernel],
-    part: Cube,
-    sign: Sign,
+    part: Row,
     heap: Global,
 ) -> Result<Option<Table>, AllocError>
-    ensures { IfOk result (λ o. elim o [ Some x ↦ AllAnew (minus sign) (power part) (as_takens taken.now) table.now x | None ↦ OneUnmade (minus sign) (power part) (as_takens taken.now) table.now ]) }
+    ensures { IfOk result (λ o. elim o [ Some x ↦ AllAnew (minus part.sign) (power part.cube) (as_takens taken.now) table.now x | None ↦ OneUnmade (minus part.sign) (power part.cube) (as_takens taken.now) table.now ]) }
 {
     let mut expressions = table.expressions;
     for e in 0..table.standing() {
-        match rewrite(table, e, taken, part, sign, heap)? {
-            Some(expression) => expressions[e] = expression,
-            None => return Ok(None),
-        }
+        let Some(expression) = rewrite(table, e, taken, part, heap)? else {
+            return Ok(None);
+        };
+        expressions[e] = expression;
     }
-    let order = table.order;
     Ok(Some(Table {
         expressions,
         numerals: table.numerals,
         parts: table.parts,
-        order,
+        order: table.order,
     }))
 }

@@ -4,11 +4,12 @@ ghost use Rattle.cubes.specs.Rows.{as_row, as_rows};
 ghost use Rattle.rewriting.specs.Factor.{covered, has, product_row, taken_in};
 ghost use Rattle.rewriting.specs.Taking.{alike, found, spot, spots, taken_by};
 ghost use Rattle.table.specs.Of.{style_of};
-ghost use Rattle.factoring.specs.Takens.{all_open, as_kernel, as_kernels, as_takens, listed, looked, open_at};
+ghost use Rattle.factoring.specs.Takens.{all_open, as_kernel, as_kernels, as_takens, looked, open_at};
+ghost use Rattle.few.specs.Listed.{listed};
 
-use crate::places::Places;
 use crate::taken::TakenKernel;
-use cubes::{Cube, Row};
+use cubes::{Cube, ROWS, Row};
+use few::Few;
 use kernels::Kernel;
 use std::alloc::{AllocError, Global};
 use table::Table;
@@ -30,71 +31,45 @@ fn is_product(row: Row, cokernel: Cube, column: Row) -> bool
 fn place_behind(rows: &[Row], cokernel: Cube, column: Row) -> Option<usize>
     ensures { elim result [ Some k ↦ (found (as_rows rows.now) (product_row (power cokernel) (as_row column)) ≡ true) × (k ≡ spot (as_rows rows.now) (product_row (power cokernel) (as_row column))) | None ↦ found (as_rows rows.now) (product_row (power cokernel) (as_row column)) ≡ false ] }
 {
-    for k in 0..rows.len() {
-        if is_product(rows[k], cokernel, column) {
-            return Some(k);
-        }
-    }
-    None
-}
-
-// whether a number is among those given
-fn contains(numbers: &[usize], number: usize) -> bool
-    ensures { result ≡ has numbers.now number }
-{
-    for n in numbers {
-        if number == *n {
-            return true;
-        }
-    }
-    false
+    rows.iter()
+        .position(|row| is_product(*row, cokernel, column))
 }
 
 // whether a taken kernel covers the row of expression e at the place
 pub(crate) fn is_covered(taken: &[TakenKernel], e: usize, place: usize) -> bool
     ensures { result ≡ has (covered (taken_in e (as_takens taken.now))) place }
 {
-    for t in taken {
-        if t.expression == e && contains(t.places.as_slice(), place) {
-            return true;
-        }
-    }
-    false
+    taken.iter().any(|t| t.covers(e, place))
 }
 
-// the place of the row behind a column in expression e, unless it is covered
-fn open_place(
-    rows: &[Row],
-    e: usize,
-    cokernel: Cube,
-    column: Row,
-    taken: &[TakenKernel],
-) -> Option<usize>
-    ensures { elim result [ Some k ↦ (open_at (as_rows rows.now) (power cokernel) (covered (taken_in e (as_takens taken.now))) (as_row column) ≡ true) × (k ≡ spot (as_rows rows.now) (product_row (power cokernel) (as_row column))) | None ↦ open_at (as_rows rows.now) (power cokernel) (covered (taken_in e (as_takens taken.now))) (as_row column) ≡ false ] }
+// the place of the row behind a column of a kernel, unless it is covered
+fn open_place(rows: &[Row], kernel: Kernel, column: Row, taken: &[TakenKernel]) -> Option<usize>
+    ensures { elim result [ Some k ↦ (open_at (as_rows rows.now) (power kernel.cokernel) (covered (taken_in kernel.expression (as_takens taken.now))) (as_row column) ≡ true) × (k ≡ spot (as_rows rows.now) (product_row (power kernel.cokernel) (as_row column))) | None ↦ open_at (as_rows rows.now) (power kernel.cokernel) (covered (taken_in kernel.expression (as_takens taken.now))) (as_row column) ≡ false ] }
 {
-    let k = place_behind(rows, cokernel, column)?;
-    if is_covered(taken, e, k) {
+    let k = place_behind(rows, kernel.cokernel, column)?;
+    if is_covered(taken, kernel.expression, k) {
         None
     } else {
         Some(k)
     }
 }
 
-// The places of the rows behind all columns in expression e, unless one is missing or covered.
+// The places of the rows behind all columns of a kernel, unless one is missing or covered.
 fn places_behind(
     rows: &[Row],
-    e: usize,
-    cokernel: Cube,
+    kernel: Kernel,
     columns: &[Row],
     taken: &[TakenKernel],
-) -> Option<Places>
+) -> Option<Few<usize, ROWS>>
     requires { length columns.now ≤ 8 }
-    ensures { elim result [ Some ps ↦ (all_open (as_rows rows.now) (power cokernel) (covered (taken_in e (as_takens taken.now))) (as_rows columns.now) ≡ true) × (listed ps ≡ spots (as_rows rows.now) (power cokernel) (as_rows columns.now)) | None ↦ all_open (as_rows rows.now) (power cokernel) (covered (taken_in e (as_takens taken.now))) (as_rows columns.now) ≡ false ] }
+    ensures { elim result [ Some ps ↦ (all_open (as_rows rows.now) (power kernel.cokernel) (covered (taken_in kernel.expression (as_takens taken.now))) (as_rows columns.now) ≡ true) × (listed ps ≡ spots (as_rows rows.now) (power kernel.cokernel) (as_rows columns.now)) | None ↦ all_open (as_rows rows.now) (power kernel.cokernel) (covered (taken_in kernel.expression (as_takens taken.now))) (as_rows columns.now) ≡ false ] }
 {
-    let mut places = Places::none();
-    for i in 0..columns.len() {
-        let k = open_place(rows, e, cokernel, columns[i], taken)?;
-        places.push(k);
+    let mut places = Few::new();
+    for column in columns {
+        let k = open_place(rows, kernel, *column, taken)?;
+        let Ok(()) = places.push(k) else {
+            unreachable()
+        };
     }
     Some(places)
 }
@@ -109,11 +84,10 @@ fn look(
     requires { length columns.now ≤ 8 }
     ensures { OnOk result (as_takens taken.new.items ≡ looked (style_of table.now) (as_rows columns.now) (as_takens taken.old.items) (as_kernel kernel)) }
 {
-    let e = kernel.expression;
-    let rows = table.rows(e);
-    if let Some(places) = places_behind(rows, e, kernel.cokernel, columns, taken.as_slice()) {
+    let rows = table.rows(kernel.expression);
+    if let Some(places) = places_behind(rows, kernel, columns, taken.as_slice()) {
         taken.push(TakenKernel {
-            expression: e,
+            expression: kernel.expression,
             cokernel: kernel.cokernel,
             places,
         })?;
@@ -132,8 +106,8 @@ pub(crate) fn take_all(
     ensures { IfOk result (λ v. as_takens v.items ≡ taken_by (style_of table.now) (as_rows columns.now) (as_kernels kernels.now)) }
 {
     let mut taken = Vec::new(heap);
-    for k in 0..kernels.len() {
-        look(table, columns, &mut taken, kernels[k])?;
+    for kernel in kernels {
+        look(table, columns, &mut taken, *kernel)?;
     }
     Ok(taken)
 }

@@ -12,7 +12,7 @@ loop-row-preserved c =
     let n = c.loop-row.number in
     let i = c.loop-row.row-index in
     let old = vec_items c.loop-row.columns in
-    elim c.match-column_of.branch [
+    elim c.match-divide.branch [
       | in-Some w ↦ elim w.if-number-eq1.branch [
         | then-number-eq1+in_ok-push v ↦
             let p = v.in_ok-push.ensures in

@@ -16,7 +16,7 @@ use Rattle.factoring.proofs.rewritten.rewrite_all.Goals as goal
 pub loop-e-preserved : goal.loop-e-preserved
 loop-e-preserved c =
     let P : ℕ → List Row → Type 0
-    = λ k xs. AllZip Alike (anew (minus c.args.sign) (power c.args.part) (taken_in k (as_takens c.args.taken.now)) (as_rows (rows_at c.args.table.now k))) (as_rows xs) in
+    = λ k xs. AllZip Alike (anew (minus c.args.part.sign) (power c.args.part.cube) (taken_in k (as_takens c.args.taken.now)) (as_rows (rows_at c.args.table.now k))) (as_rows xs) in
     let h : c.loop-e.e < length c.loop-e.expressions = omega (arith, c.loop-e.invariant.0, c.loop-e-test.true, c.standing-e-end.ensures, c.args.table.now.few) in
     let one : P c.loop-e.e (rows_of c.in-Some.expression) = search rules in
     (simp length-set c.loop-e.invariant.0, written_more c.loop-e.expressions c.loop-e.e c.in-Some.expression h P c.loop-e.invariant.1 one)

@@ -13,4 +13,4 @@ use Rattle.factoring.proofs.rewritten.rewrite_all.Given as goal
 abbrev pub invariant-loop-e : goal.invariant-loop-e
 invariant-loop-e l =
     (length l.expressions ≡ 32)
-    × ((k : ℕ) → k < l.e → AllZip Alike (anew (minus l.sign) (power l.part) (taken_in k (as_takens l.taken)) (as_rows (rows_at l.table k))) (as_rows (get_or (map rows_of l.expressions) k [])))
+    × ((k : ℕ) → k < l.e → AllZip Alike (anew (minus l.part.sign) (power l.part.cube) (taken_in k (as_takens l.taken)) (as_rows (rows_at l.table k))) (as_rows (get_or (map rows_of l.expressions) k [])))

@@ -3,12 +3,13 @@ use Rattle.cubes.specs.Powers.{power}
 use Rattle.cubes.specs.Rows.{as_rows}
 use Rattle.rewriting.specs.Factor.{covered, taken_in}
 use Rattle.rewriting.specs.Taking.{spots}
-use Rattle.factoring.specs.Takens.{all_open, as_takens, listed}
+use Rattle.factoring.specs.Takens.{all_open, as_takens}
+use Rattle.few.specs.Listed.{listed}
 use Rattle.factoring.proofs.taking.places_behind.Given as goal
 
-abbrev pub invariant-loop-i : goal.invariant-loop-i
-invariant-loop-i l =
-    (all_open (as_rows l.rows) (power l.cokernel) (covered (taken_in l.e (as_takens l.taken))) (as_rows (drop l.i l.columns))
-    ≡ all_open (as_rows l.rows) (power l.cokernel) (covered (taken_in l.e (as_takens l.taken))) (as_rows l.columns))
-    × (listed l.places ++ spots (as_rows l.rows) (power l.cokernel) (as_rows (drop l.i l.columns)) ≡ spots (as_rows l.rows) (power l.cokernel) (as_rows l.columns))
-    × (length (listed l.places) ≡ l.i)
+abbrev pub invariant-loop-column : goal.invariant-loop-column
+invariant-loop-column l =
+    (all_open (as_rows l.rows) (power l.kernel.cokernel) (covered (taken_in l.kernel.expression (as_takens l.taken))) (as_rows (drop l.column-index l.columns))
+    ≡ all_open (as_rows l.rows) (power l.kernel.cokernel) (covered (taken_in l.kernel.expression (as_takens l.taken))) (as_rows l.columns))
+    × (listed l.places ++ spots (as_rows l.rows) (power l.kernel.cokernel) (as_rows (drop l.column-index l.columns)) ≡ spots (as_rows l.rows) (power l.kernel.cokernel) (as_rows l.columns))
+    × (length (listed l.places) ≡ l.column-index)

@@ -8,12 +8,12 @@ use Rattle.factoring.specs.Takens.{as_kernels, as_takens}
 use Rattle.factoring.proofs.Looks.{taken_more}
 use Rattle.factoring.proofs.taking.take_all.Goals as goal
 
-pub loop-k-preserved : goal.loop-k-preserved
-loop-k-preserved c = let a = c.in_ok-look.ensures in
-    taken_more (style_of c.args.table.now) (as_rows c.args.columns.now) c.args.kernels.now c.loop-k.k (as_takens (vec_items c.loop-k.taken)) _ c.loop-k-test.true
-    c.in_ok-look.ensures ∙ c.loop-k.invariant
+pub loop-kernel-preserved : goal.loop-kernel-preserved
+loop-kernel-preserved c = let a = c.in_ok-look.ensures in
+    taken_more (style_of c.args.table.now) (as_rows c.args.columns.now) c.args.kernels.now c.loop-kernel.kernel-index (as_takens (vec_items c.loop-kernel.taken)) _ c.loop-kernel-test.true
+    c.in_ok-look.ensures ∙ c.loop-kernel.invariant
 
 pub returns : goal.returns
 returns c =
-    sym (at_drop_all (λ (zs : List Kernel). taken_after (style_of c.args.table.now) (as_rows c.args.columns.now) (as_takens (vec_items c.loop-k.taken)) (as_kernels zs))
-    c.args.kernels.now c.loop-k.k c.loop-k-test.false) ∙ c.loop-k.invariant
+    sym (at_drop_all (λ (zs : List Kernel). taken_after (style_of c.args.table.now) (as_rows c.args.columns.now) (as_takens (vec_items c.loop-kernel.taken)) (as_kernels zs))
+    c.args.kernels.now c.loop-kernel.kernel-index c.loop-kernel-test.false) ∙ c.loop-kernel.invariant

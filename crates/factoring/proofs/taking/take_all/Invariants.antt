@@ -5,7 +5,7 @@ use Rattle.table.specs.Of.{style_of}
 use Rattle.factoring.specs.Takens.{as_kernels, as_takens}
 use Rattle.factoring.proofs.taking.take_all.Given as goal
 
-abbrev pub invariant-loop-k : goal.invariant-loop-k
-invariant-loop-k l =
-    taken_after (style_of l.table) (as_rows l.columns) (as_takens (vec_items l.taken)) (as_kernels (drop l.k l.kernels))
+abbrev pub invariant-loop-kernel : goal.invariant-loop-kernel
+invariant-loop-kernel l =
+    taken_after (style_of l.table) (as_rows l.columns) (as_takens (vec_items l.taken)) (as_kernels (drop l.kernel-index l.kernels))
     ≡ taken_by (style_of l.table) (as_rows l.columns) (as_kernels l.kernels)
