@@ -1,21 +1,22 @@
-ghost use Rattle.std.specs.Prelude.{◌≡◌, [], length, take};
+ghost use Rattle.std.specs.Prelude.{◌≡◌, []};
+ghost use Rattle.few.specs.Listed.{listed};
 ghost use Rattle.rewriting.specs.Order.{first_order};
 ghost use Rattle.opening.specs.Holding.{Holds};
 ghost use Rattle.opening.specs.Styles.{HasNoted};
 
 use crate::style::OpenStyle;
 use cubes::Expression;
+use few::Few;
 use sheet::Numerals;
 use table::{EXPRESSIONS, FORMULAS, Table};
 
 // The making order at first: the formulas by number.
-fn first_order() -> [usize; EXPRESSIONS]
-    ensures all { length result ≡ 32 }
-    ensures is { take 16 result ≡ first_order }
+fn first_order() -> Few<usize, EXPRESSIONS>
+    ensures { listed result ≡ first_order }
 {
-    let mut order = [0; EXPRESSIONS];
+    let mut order = Few::new();
     for e in 0..FORMULAS {
-        order[e] = e;
+        let Ok(()) = order.push(e) else { unreachable() };
     }
     order
 }
