@@ -5,25 +5,20 @@ ghost use Rattle.rules.specs.Numbers.{factor_number, share_number, settle_number
 #[derive(Clone, Copy, PartialEq, Eq, Debug)]
 pub enum FactorRefusal {
     // a weight outside 1 to 1,000
-    Weight,
+    Weight = 10,
     // sixteen parts stand
-    FullParts,
+    FullParts = 11,
     // the list has fewer places than there are kernels
-    ShortList,
+    ShortList = 9,
     // no column set saves more than 0
-    NoGain,
+    NoGain = 12,
 }
 
-impl FactorRefusal {
-    pub fn number(self) -> u8
-        ensures { result ≡ factor_number self }
-    {
-        match self {
-            FactorRefusal::Weight => 10,
-            FactorRefusal::FullParts => 11,
-            FactorRefusal::ShortList => 9,
-            FactorRefusal::NoGain => 12,
-        }
+impl From<FactorRefusal> for u8 {
+    ghost from_gives = { λ why n. n ≡ factor_number why };
+
+    fn from(why: FactorRefusal) -> u8 {
+        why as u8
     }
 }
 
@@ -31,19 +26,16 @@ impl FactorRefusal {
 #[derive(Clone, Copy, PartialEq, Eq, Debug)]
 pub enum ShareRefusal {
     // sixteen parts stand
-    FullParts,
+    FullParts = 11,
     // no two rows have a common cube of degree two or more
-    NoCube,
+    NoCube = 12,
 }
 
-impl ShareRefusal {
-    pub fn number(self) -> u8
-        ensures { result ≡ share_number self }
-    {
-        match self {
-            ShareRefusal::FullParts => 11,
-            ShareRefusal::NoCube => 12,
-        }
+impl From<ShareRefusal> for u8 {
+    ghost from_gives = { λ why n. n ≡ share_number why };
+
+    fn from(why: ShareRefusal) -> u8 {
+        why as u8
     }
 }
 
@@ -51,16 +43,14 @@ impl ShareRefusal {
 #[derive(Clone, Copy, PartialEq, Eq, Debug)]
 pub enum SettleRefusal {
     // a weight outside 1 to 1,000
-    Weight,
+    Weight = 10,
 }
 
-impl SettleRefusal {
-    pub fn number(self) -> u8
-        ensures { result ≡ settle_number self }
-    {
-        match self {
-            SettleRefusal::Weight => 10,
-        }
+impl From<SettleRefusal> for u8 {
+    ghost from_gives = { λ why n. n ≡ settle_number why };
+
+    fn from(why: SettleRefusal) -> u8 {
+        why as u8
     }
 }
 
@@ -68,22 +58,18 @@ impl SettleRefusal {
 #[derive(Clone, Copy, PartialEq, Eq, Debug)]
 pub enum SettleEnd {
     // factor: the list has fewer places than there are kernels
-    ShortList,
+    ShortList = 9,
     // factor or share: sixteen parts stand
-    FullParts,
+    FullParts = 11,
     // share: nothing is left to save
-    NothingLeft,
+    NothingLeft = 12,
 }
 
-impl SettleEnd {
-    pub fn number(self) -> u8
-        ensures { result ≡ end_number self }
-    {
-        match self {
-            SettleEnd::ShortList => 9,
-            SettleEnd::FullParts => 11,
-            SettleEnd::NothingLeft => 12,
-        }
+impl From<SettleEnd> for u8 {
+    ghost from_gives = { λ end n. n ≡ end_number end };
+
+    fn from(end: SettleEnd) -> u8 {
+        end as u8
     }
 }
 
@@ -91,15 +77,13 @@ impl SettleEnd {
 #[derive(Clone, Copy, PartialEq, Eq, Debug)]
 pub enum EmitRefusal {
     // the step buffer is shorter than the sheet
-    ShortBuffer,
+    ShortBuffer = 13,
 }
 
-impl EmitRefusal {
-    pub fn number(self) -> u8
-        ensures { result ≡ emit_number self }
-    {
-        match self {
-            EmitRefusal::ShortBuffer => 13,
-        }
+impl From<EmitRefusal> for u8 {
+    ghost from_gives = { λ why n. n ≡ emit_number why };
+
+    fn from(why: EmitRefusal) -> u8 {
+        why as u8
     }
 }
