@@ -1,9 +1,12 @@
 -- Numerals and their places.
-use Rattle.std.proofs.Common.{◌≡◌, ℕ, suc, ◌+◌, ◌≤◌, Bool, true, false, cond, not, ◌||◌, eqb, ◌⊎◌, List, [], ◌∷◌, ◌++◌, length, sym, refl, ap, ◌∙◌, inl, inr, ⊎_elim, arith}
-use Rattle.std.proofs.lemmas.Bool.{both_ways, cases_Bool, eq-eqb, le-ltb, ne_eqb, not-false, not-true, or_cases, or_parts}
+use Rattle.std.proofs.Common.{◌≡◌, ℕ, suc, ◌+◌, ◌≤◌, Bool, true, false, cond, eqb, ◌⊎◌, List, [], ◌∷◌, ◌++◌, length, refl, ap, ◌∙◌, inl, inr, ⊎_elim, arith}
+use Rattle.std.proofs.lemmas.Bool.{both_ways, cases_Bool, eq-eqb, not-false, not-true, or_cases, or_parts}
 use Rattle.std.proofs.lemmas.List.{length_push}
 use Rattle.rewriting.specs.Book.{holds, place, with_numeral}
 use Rattle.rewriting.proofs.Books.{place_holds}
+use Rattle.sheet.specs.declared.numerals.Numerals.{Numerals}
+use Rattle.sheet.specs.Numerals.{numerals_list}
+use Rattle.sheet.proofs.Rules.{length_numerals}
 use Rattle.opening.specs.Room.{is_new}
 
 -- a number that is not held has its place behind all
@@ -25,14 +28,6 @@ place_push (n ∷ ns) x m h =
     go true e r = refl
     go false e r = ap suc (r e)
 
--- by its place one sees whether a magnitude above one is a new numeral
-pub new_by_place : (ns : List ℕ) (m : ℕ) → 2 ≤ m → eqb (place ns m) (length ns) ≡ is_new ns m
-new_by_place ns m h = go (holds ns m) refl ∙ sym (ap (λ (b : Bool). not (b || holds ns m)) (le-ltb m 2 h))
-  where
-    go : (b : Bool) → holds ns m ≡ b → eqb (place ns m) (length ns) ≡ not b
-    go true e = ne_eqb (place ns m) (length ns) (λ q. omega (arith, (place_holds ns m e).0))
-    go false e = eq-eqb (place ns m) (length ns) (place_free ns m e)
-
 -- the numerals with a magnitude: one more where it is new
 pub length_new : (ns : List ℕ) (m : ℕ) → is_new ns m ≡ true → length (with_numeral ns m) ≡ length ns + 1
 length_new ns m h = ap (λ (b : Bool). length (cond b ns (ns ++ m ∷ []))) (not-true _ h) ∙ length_push ns m
@@ -42,3 +37,7 @@ length_old ns m h = ap (λ (b : Bool). length (cond b ns (ns ++ m ∷ []))) (not
 
 pub place_within : (ns : List ℕ) (m : ℕ) → place ns m ≤ length ns
 place_within ns m = ⊎_elim (λ h. omega (arith, (place_holds ns m h).0)) (λ h. omega (arith, place_free ns m h)) (cases_Bool (holds ns m))
+
+-- a style has eight numerals at most
+pub few_held : (xs : Numerals) → length (numerals_list xs) ≤ 8
+few_held xs = omega (arith, length_numerals xs, xs.few)

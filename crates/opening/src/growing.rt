@@ -17,11 +17,12 @@ pub(crate) fn add_row(table: &mut Table, formula: usize, row: Row)
     requires fresh { Holds (rows_at table.old formula) (power row.cube) → ⊥ }
     ensures { RowAdded table.old formula row table.new }
 {
+    // a copy takes the row: no proof is made of a push into the element where it stands
     let mut expression = table.expressions[formula];
-    match expression.push(row) {
-        Ok(()) => table.expressions[formula] = expression,
-        Err(_) => unreachable(),
-    }
+    let Ok(()) = expression.push(row) else {
+        unreachable()
+    };
+    table.expressions[formula] = expression;
 }
 
 // Holds the magnitude as a numeral, if it is a new one.
@@ -30,9 +31,8 @@ pub(crate) fn hold_numeral(table: &mut Table, magnitude: u16)
     ensures { NumeralsSet table.old (with_numeral (numerals_list table.old.numerals) magnitude) table.new }
 {
     if is_new(&table.numerals, magnitude) {
-        match table.numerals.push(magnitude) {
-            Ok(()) => {}
-            Err(_) => unreachable(),
-        }
+        let Ok(()) = table.numerals.push(magnitude) else {
+            unreachable()
+        };
     }
 }

@@ -2,34 +2,40 @@ ghost use Rattle.std.specs.Prelude.{◌≡◌, ◌≤◌, true, false, not, leng
 ghost use Rattle.std.specs.Int.Signed.{non_neg};
 ghost use Rattle.algebra.specs.Cubes.{Same, product};
 ghost use Rattle.cubes.specs.Powers.{power};
-ghost use Rattle.cubes.specs.Rows.{Holds, minus};
+ghost use Rattle.cubes.specs.Rows.{minus};
 ghost use Rattle.rewriting.specs.Book.{place};
 ghost use Rattle.sheet.specs.Numerals.{numerals_list};
 ghost use Rattle.opening.specs.Room.{is_new, numeral_cube};
 ghost use Rattle.opening.specs.Checks.{power_sum};
 
 use crate::checks::MEASURES;
-use cubes::{Cube, LETTERS, Row, Sign};
+use cubes::{Cube, Sign};
 use sheet::Numerals;
+use std::array;
 
 // The place of a magnitude among the numerals, behind them all where it is not held.
 pub(crate) fn place_of(numerals: &[u16], magnitude: u16) -> usize
     ensures { result ≡ place numerals.now magnitude }
 {
-    for (i, n) in numerals.iter().enumerate() {
-        if *n == magnitude {
-            return i;
-        }
-    }
-    numerals.len()
+    numerals
+        .iter()
+        .position(|n| *n == magnitude)
+        .unwrap_or(numerals.len())
 }
 
 // Whether a magnitude is a numeral that is not held: there is none for a magnitude of 1.
 pub(crate) fn is_new(numerals: &Numerals, magnitude: u16) -> bool
     ensures { result ≡ is_new (numerals_list numerals.now) magnitude }
 {
-    let held = numerals.as_slice();
-    magnitude >= 2 && place_of(held, magnitude) == held.len()
+    magnitude >= 2 && !numerals.as_slice().contains(&magnitude)
+}
+
+// The power of a letter: that of a measure is the term's, and that of any other is 0.
+fn power_of(powers: &[u64], letter: usize) -> u8
+    requires { power_sum powers.now ≤ 24 }
+    ensures { result ≡ slice_index powers.now letter }
+{
+    powers.get(letter).map_or(0, |p| *p as u8)
 }
 
 // The cube of a term: its powers, and a letter for its magnitude, which has the place `at` among the numerals.
@@ -39,10 +45,7 @@ pub(crate) fn cube_of(magnitude: u16, at: usize, powers: &[u64]) -> Cube
     requires room { at ≤ 8 }
     ensures { Same (power result) (product (numeral_cube magnitude at) (λ l. slice_index powers.now l)) }
 {
-    let mut all = [0; LETTERS];
-    for l in 0..MEASURES {
-        all[l] = powers[l] as u8;
-    }
+    let mut all = array::from_fn(|l| power_of(powers, l));
     if magnitude >= 2 {
         all[MEASURES + at] = 1;
     }
@@ -58,17 +61,4 @@ pub(crate) fn sign_of(coefficient: i64) -> Sign
     } else {
         Sign::Plus
     }
-}
-
-// Whether one of the rows has this cube.
-pub(crate) fn has_cube(rows: &[Row], cube: Cube) -> bool
-    ensures yes { result ≡ true → Holds rows.now (power cube) }
-    ensures no { result ≡ false → Holds rows.now (power cube) → ⊥ }
-{
-    for row in rows {
-        if row.cube.same(cube) {
-            return true;
-        }
-    }
-    false
 }

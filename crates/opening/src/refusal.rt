@@ -5,36 +5,27 @@ ghost use Rattle.opening.specs.Numbers.{enter_refusal_number};
 #[derive(Clone, Copy, PartialEq, Eq, Debug)]
 pub enum EnterRefusal {
     // there is no such formula
-    Formula,
+    Formula = 1,
     // a coefficient of 0, or one that is too large
-    Coefficient,
+    Coefficient = 2,
     // other than eight powers
-    Powers,
+    Powers = 3,
     // powers with too large a sum
-    Degree,
+    Degree = 4,
     // the formula has the cube, numeral included
-    DoubleCube,
+    DoubleCube = 5,
     // the formula has eight terms
-    FullFormula,
+    FullFormula = 6,
     // the style has eighty terms
-    FullStyle,
+    FullStyle = 7,
     // the coefficient would be a ninth numeral
-    NinthNumeral,
+    NinthNumeral = 8,
 }
 
-impl EnterRefusal {
-    pub fn number(self) -> u8
-        ensures { result ≡ enter_refusal_number self }
-    {
-        match self {
-            EnterRefusal::Formula => 1,
-            EnterRefusal::Coefficient => 2,
-            EnterRefusal::Powers => 3,
-            EnterRefusal::Degree => 4,
-            EnterRefusal::DoubleCube => 5,
-            EnterRefusal::FullFormula => 6,
-            EnterRefusal::FullStyle => 7,
-            EnterRefusal::NinthNumeral => 8,
-        }
+impl From<EnterRefusal> for u8 {
+    ghost from_gives = { λ why n. n ≡ enter_refusal_number why };
+
+    fn from(why: EnterRefusal) -> u8 {
+        why as u8
     }
 }

@@ -7,10 +7,10 @@ ghost use Rattle.opening.specs.Styles.{Entered, table_of, terms_of};
 
 use crate::checks::check;
 use crate::growing::{add_row, hold_numeral};
-use crate::placing::{cube_of, has_cube, is_new, place_of, sign_of};
+use crate::placing::{cube_of, is_new, place_of, sign_of};
 use crate::refusal::EnterRefusal;
 use crate::style::OpenStyle;
-use cubes::{Cube, ROWS, Row};
+use cubes::{Cube, ROWS, Row, holds};
 
 // How many terms a style has at most.
 const TERMS: usize = 80;
@@ -24,7 +24,7 @@ impl OpenStyle {
         ensures { RoomChecked result (rows_at (table_of self.now) formula) (power cube) (terms_of self.now) (numerals_list (table_of self.now).numerals) magnitude }
     {
         let rows = self.table.rows(formula);
-        if has_cube(rows, cube) {
+        if holds(rows, cube) {
             return Err(EnterRefusal::DoubleCube);
         }
         if rows.len() >= ROWS {

@@ -1,20 +1,21 @@
-use Rattle.std.proofs.Common.{arith}
-use Rattle.std.proofs.lemmas.List.{at_drop_more, at_drop_all}
-use Rattle.std.proofs.lemmas.Bool.{false≢true, true≢false}
+use Rattle.std.proofs.Common.{◌≡◌, ℕ, ◌+◌, ◌≤◌, min, List, [], ◌∷◌, fold, ◌∙◌, arith, rules}
+use Rattle.std.proofs.iter.runs.Made.{chains}
+use Rattle.std.proofs.lemmas.Bool.Decides.{nat_tests}
 use Rattle.opening.specs.Checks.{power_sum}
 use Rattle.opening.proofs.checks.is_light.Goals as goal
 
-pub returns-then-p-left : goal.returns-then-p-left
-returns-then-p-left c =
-    let e = at_drop_more power_sum c.args.powers.now c.loop-p.p-index 0 c.loop-p-test.true in
-    record { yes = λ q. absurd (false≢true q); no = λ _. omega (arith, e, c.loop-p.invariant, c.if-p-left.true) }
+-- a sum that stops at a bound
+bounded_sum : (b a : ℕ) (ps : List ℕ) → a ≤ b → fold (λ s p. min (s + p) b) a ps ≡ min (a + power_sum ps) b
+bounded_sum b a [] h = omega arith
+bounded_sum b a (p ∷ ps) h = bounded_sum b (min (a + p) b) ps (omega arith) ∙ omega arith
 
-pub loop-p-preserved : goal.loop-p-preserved
-loop-p-preserved c =
-    let e = at_drop_more power_sum c.args.powers.now c.loop-p.p-index 0 c.loop-p-test.true in
-    omega (arith, e, c.loop-p.invariant, c.if-p-left.false)
+sum_is : (c : goal.After-fold) → c.fold.result ≡ min (power_sum c.args.powers.now) 18446744073709551615
+sum_is c =
+    let e : c.fold.result ≡ fold (λ s p. min (s + p) 18446744073709551615) 0 c.args.powers.now = search (rules, chains) in
+    e ∙ bounded_sum 18446744073709551615 0 c.args.powers.now (omega arith) ∙ omega arith
 
-pub returns : goal.returns
-returns c =
-    let e = at_drop_all power_sum c.args.powers.now c.loop-p.p-index c.loop-p-test.false in
-    record { yes = λ _. omega (arith, e, c.loop-p.invariant); no = λ q. absurd (true≢false q) }
+pub returns-clause-yes : goal.returns-clause-yes
+returns-clause-yes c = let e = sum_is c in grind (arith, nat_tests)
+
+pub returns-clause-no : goal.returns-clause-no
+returns-clause-no c = let e = sum_is c in grind (arith, nat_tests)

@@ -4,10 +4,9 @@ use Rattle.std.proofs.lemmas.Result.{err_from_is_err_and}
 use Rattle.std.proofs.lemmas.Int.{to_z-of_z}
 use Rattle.rewriting.specs.Book.{accepted, place}
 use Rattle.sheet.specs.Numerals.{numerals_list}
-use Rattle.sheet.proofs.Rules.{few_numerals}
 use Rattle.opening.specs.Checks.{Admissible, AlwaysRefused}
 use Rattle.opening.specs.Holding.{term_of}
-use Rattle.opening.proofs.Numerals.{place_within}
+use Rattle.opening.proofs.Numerals.{few_held, place_within}
 use Rattle.opening.proofs.Outcomes.{lacking, noted_next, refused, taken}
 use Rattle.opening.proofs.style.OpenStyle.enter.Goals as goal
 
@@ -26,7 +25,7 @@ cube_of-cube-requires c =
     let ns = numerals_list held in
     let m = c.in_ok-magnitude.magnitude in
     let at : c.place_of-place.result ≡ place ns m = c.place_of-place.ensures ∙ ap (λ (xs : List ℕ). place xs m) c.as_slice.ensures in
-    record { eight = a.eight; light = a.light; room = omega (arith, at, place_within ns m, few_numerals held) }
+    record { eight = a.eight; light = a.light; room = omega (arith, at, place_within ns m, few_held held) }
 
 pub returns-in_err-check_room : goal.returns-in_err-check_room
 returns-in_err-check_room c =
