@@ -1,4 +1,4 @@
-pub mod Powers
+pub mod TermCubes
 pub mod Numerals
 pub mod Tables
 pub mod Doubles

@@ -16,6 +16,12 @@ pub record Admissible (t : Term) : Type 0 where
   pub eight : length t.powers ≡ 8
   pub light : power_sum t.powers ≤ 24
 
+-- the checks are passed, with this magnitude and these powers
+pub record Passes (t : Term) (m : ℕ) (ps : List ℕ) : Type 0 where
+  pub admissible : Admissible t
+  pub size : m ≡ magnitude t
+  pub powers : ps ≡ t.powers
+
 -- refused for this reason, whatever is noted
 abbrev pub AlwaysRefused : EnterRefusal → Term → Type 0
 AlwaysRefused why t = (noted : List Term) → enter_refusal_number why ≡ refusal noted t

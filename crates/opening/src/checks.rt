@@ -1,12 +1,10 @@
 ghost use Rattle.std.specs.Prelude.{◌≡◌, ◌<◌, ◌≤◌, true, false, ◌⊎◌, Some, None, Ok, Err, unsigned_abs};
-ghost use Rattle.opening.specs.Checks.{Admissible, AlwaysRefused, power_sum};
+ghost use Rattle.opening.specs.Checks.{AlwaysRefused, Passes, power_sum};
 ghost use Rattle.opening.specs.Holding.{term_of};
 
+use crate::powers::{MEASURES, TermPowers};
 use crate::refusal::EnterRefusal;
 use table::FORMULAS;
-
-// How many measures there are, and so how many powers a term has.
-pub(crate) const MEASURES: usize = 8;
 
 // The largest sum of a term's powers.
 const DEGREE: u64 = 24;
@@ -28,19 +26,21 @@ fn is_light(powers: &[u64]) -> bool
     powers.iter().fold(0u64, |sum, p| sum.saturating_add(*p)) <= DEGREE
 }
 
-// The checks that the term alone decides, in their order. The answer is the magnitude of the coefficient.
-pub(crate) fn check(formula: usize, coefficient: i64, powers: &[u64]) -> Result<u16, EnterRefusal>
-    ensures { elim result [ Ok m ↦ Admissible (term_of formula coefficient powers.now) × (m ≡ unsigned_abs coefficient) | Err why ↦ AlwaysRefused why (term_of formula coefficient powers.now) ] }
+// The checks that the term alone decides, in their order. The answer is the magnitude of the coefficient, and the powers.
+pub(crate) fn check(
+    formula: usize,
+    coefficient: i64,
+    powers: &[u64],
+) -> Result<(u16, TermPowers), EnterRefusal>
+    ensures { elim result [ Ok x ↦ Passes (term_of formula coefficient powers.now) x.0 x.1.each | Err why ↦ AlwaysRefused why (term_of formula coefficient powers.now) ] }
 {
     if formula >= FORMULAS {
         return Err(EnterRefusal::Formula);
     }
     let magnitude = magnitude_of(coefficient).ok_or(EnterRefusal::Coefficient)?;
-    if powers.len() != MEASURES {
-        return Err(EnterRefusal::Powers);
-    }
+    let each = <[u64; MEASURES]>::try_from(powers).map_err(|_| EnterRefusal::Powers)?;
     if !is_light(powers) {
         return Err(EnterRefusal::Degree);
     }
-    Ok(magnitude)
+    Ok((magnitude, TermPowers { each }))
 }

@@ -4,6 +4,7 @@
 mod checks;
 mod growing;
 mod placing;
+mod powers;
 mod refusal;
 mod style;
 

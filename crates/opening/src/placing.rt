@@ -8,7 +8,7 @@ ghost use Rattle.sheet.specs.Numerals.{numerals_list};
 ghost use Rattle.opening.specs.Room.{is_new, numeral_cube};
 ghost use Rattle.opening.specs.Checks.{power_sum};
 
-use crate::checks::MEASURES;
+use crate::powers::{MEASURES, TermPowers};
 use cubes::{Cube, Sign};
 use sheet::Numerals;
 use std::array;
@@ -30,22 +30,12 @@ pub(crate) fn is_new(numerals: &Numerals, magnitude: u16) -> bool
     magnitude >= 2 && !numerals.as_slice().contains(&magnitude)
 }
 
-// The power of a letter: that of a measure is the term's, and that of any other is 0.
-fn power_of(powers: &[u64], letter: usize) -> u8
-    requires { power_sum powers.now ≤ 24 }
-    ensures { result ≡ slice_index powers.now letter }
-{
-    powers.get(letter).map_or(0, |p| *p as u8)
-}
-
 // The cube of a term: its powers, and a letter for its magnitude, which has the place `at` among the numerals.
-pub(crate) fn cube_of(magnitude: u16, at: usize, powers: &[u64]) -> Cube
-    requires eight { length powers.now ≡ 8 }
-    requires light { power_sum powers.now ≤ 24 }
-    requires room { at ≤ 8 }
-    ensures { Same (power result) (product (numeral_cube magnitude at) (λ l. slice_index powers.now l)) }
+pub(crate) fn cube_of(magnitude: u16, at: usize, powers: &TermPowers) -> Cube
+    requires { at ≤ 8 }
+    ensures { Same (power result) (product (numeral_cube magnitude at) (λ l. slice_index powers.now.each l)) }
 {
-    let mut all = array::from_fn(|l| power_of(powers, l));
+    let mut all = array::from_fn(|l| powers.of(l));
     if magnitude >= 2 {
         all[MEASURES + at] = 1;
     }

@@ -48,9 +48,9 @@ impl OpenStyle {
     ) -> Result<(), EnterRefusal>
         ensures { Entered self.old (term_of formula coefficient powers.now) result self.new }
     {
-        let magnitude = check(formula, coefficient, powers)?;
+        let (magnitude, powers) = check(formula, coefficient, powers)?;
         let place = place_of(self.table.numerals.as_slice(), magnitude);
-        let cube = cube_of(magnitude, place, powers);
+        let cube = cube_of(magnitude, place, &powers);
         self.check_room(formula, cube, magnitude)?;
         let row = Row {
             cube,

@@ -1,10 +1,10 @@
-use Rattle.std.proofs.Common.{◌≡◌, ℕ, not, List, ℤ, nat_abs, refl, ap, ◌∙◌, subst, arith, w64}
+use Rattle.std.proofs.Common.{◌≡◌, not, ℤ, refl, ap, ◌∙◌, subst, arith, w64}
 use lib.Signed.{non_neg}
 use Rattle.std.proofs.lemmas.Result.{err_from_is_err_and}
 use Rattle.std.proofs.lemmas.Int.{to_z-of_z}
 use Rattle.rewriting.specs.Book.{accepted, place}
 use Rattle.sheet.specs.Numerals.{numerals_list}
-use Rattle.opening.specs.Checks.{Admissible, AlwaysRefused}
+use Rattle.opening.specs.Checks.{AlwaysRefused, Passes}
 use Rattle.opening.specs.Holding.{term_of}
 use Rattle.opening.proofs.Numerals.{few_held, place_within}
 use Rattle.opening.proofs.Outcomes.{lacking, noted_next, refused, taken}
@@ -20,40 +20,37 @@ returns-in_err-magnitude c =
 
 pub cube_of-cube-requires : goal.cube_of-cube-requires
 cube_of-cube-requires c =
-    let a = c.in_ok-magnitude.ensures.0 in
     let held = c.args.self.now.table.numerals in
-    let ns = numerals_list held in
     let m = c.in_ok-magnitude.magnitude in
-    let at : c.place_of-place.result ≡ place ns m = c.place_of-place.ensures ∙ ap (λ (xs : List ℕ). place xs m) c.as_slice.ensures in
-    record { eight = a.eight; light = a.light; room = omega (arith, at, place_within ns m, few_held held) }
+    let at : c.place_of-place.result ≡ place (numerals_list held) m = cc in
+    omega (arith, at, place_within (numerals_list held) m, few_held held)
 
 pub returns-in_err-check_room : goal.returns-in_err-check_room
 returns-in_err-check_room c =
     let m = c.in_ok-magnitude.magnitude in
-    let checked = subst (λ (z : ℤ). Admissible (term_of c.args.formula z c.args.powers.now) × (m ≡ nat_abs z))
-    (to_z-of_z w64 c.args.coefficient c.ranges.coefficient) c.in_ok-magnitude.ensures in
+    let ps = c.in_ok-magnitude.powers.each in
+    let passed = subst (λ (z : ℤ). Passes (term_of c.args.formula z c.args.powers.now) m ps) (to_z-of_z w64 c.args.coefficient c.ranges.coefficient) c.in_ok-magnitude.ensures in
     let p = err_from_is_err_and c.from_residual-in_err-check_room.result c.from_residual-in_err-check_room.ensures.1 in
-    lacking c.args.self.now (term_of c.args.formula c.args.coefficient c.args.powers.now) checked.0 m c.place_of-place.result checked.1
-    (c.place_of-place.ensures ∙ ap (λ (xs : List ℕ). place xs m) c.as_slice.ensures) c.cube_of-cube.result c.cube_of-cube.ensures
-    c.from_residual-in_err-check_room.result c.in_err-check_room.field-0.0 (cc) c.in_err-check_room.ensures
+    lacking c.args.self.now (term_of c.args.formula c.args.coefficient c.args.powers.now) m c.place_of-place.result ps passed (cc)
+    c.cube_of-cube.result c.cube_of-cube.ensures c.from_residual-in_err-check_room.result c.in_err-check_room.field-0.0 (cc) c.in_err-check_room.ensures
 
 pub invariant_of-self : goal.invariant_of-self
 invariant_of-self c =
     let m = c.in_ok-magnitude.magnitude in
+    let ps = c.in_ok-magnitude.powers.each in
     let z = to_z-of_z w64 c.args.coefficient c.ranges.coefficient in
-    let checked = subst (λ (n : ℤ). Admissible (term_of c.args.formula n c.args.powers.now) × (m ≡ nat_abs n)) z c.in_ok-magnitude.ensures in record {
-      noted = noted_next c.args.self.now (term_of c.args.formula c.args.coefficient c.args.powers.now) checked.0 m c.place_of-place.result checked.1
-          (c.place_of-place.ensures ∙ ap (λ (xs : List ℕ). place xs m) c.as_slice.ensures) c.cube_of-cube.result c.cube_of-cube.ensures
-          c.in_ok-check_room.ensures c.sign_of.result (c.sign_of.ensures ∙ ap (λ (n : ℤ). not (non_neg n)) z)
+    let passed = subst (λ (n : ℤ). Passes (term_of c.args.formula n c.args.powers.now) m ps) z c.in_ok-magnitude.ensures in record {
+      noted = noted_next c.args.self.now (term_of c.args.formula c.args.coefficient c.args.powers.now) m c.place_of-place.result ps passed (cc)
+          c.cube_of-cube.result c.cube_of-cube.ensures c.in_ok-check_room.ensures c.sign_of.result (c.sign_of.ensures ∙ ap (λ (n : ℤ). not (non_neg n)) z)
           c.add_row.new.table c.hold_numeral.new.table c.add_row.ensures c.hold_numeral.ensures;
     }
 
 pub returns : goal.returns
 returns c =
     let m = c.in_ok-magnitude.magnitude in
+    let ps = c.in_ok-magnitude.powers.each in
     let z = to_z-of_z w64 c.args.coefficient c.ranges.coefficient in
-    let checked = subst (λ (n : ℤ). Admissible (term_of c.args.formula n c.args.powers.now) × (m ≡ nat_abs n)) z c.in_ok-magnitude.ensures in
-    taken c.args.self.now (term_of c.args.formula c.args.coefficient c.args.powers.now) checked.0 m c.place_of-place.result checked.1
-    (c.place_of-place.ensures ∙ ap (λ (xs : List ℕ). place xs m) c.as_slice.ensures) c.cube_of-cube.result c.cube_of-cube.ensures
-    c.in_ok-check_room.ensures c.sign_of.result (c.sign_of.ensures ∙ ap (λ (n : ℤ). not (non_neg n)) z)
+    let passed = subst (λ (n : ℤ). Passes (term_of c.args.formula n c.args.powers.now) m ps) z c.in_ok-magnitude.ensures in
+    taken c.args.self.now (term_of c.args.formula c.args.coefficient c.args.powers.now) m c.place_of-place.result ps passed (cc)
+    c.cube_of-cube.result c.cube_of-cube.ensures c.in_ok-check_room.ensures c.sign_of.result (c.sign_of.ensures ∙ ap (λ (n : ℤ). not (non_neg n)) z)
     c.add_row.new.table c.hold_numeral.new.table c.add_row.ensures c.hold_numeral.ensures _ refl refl

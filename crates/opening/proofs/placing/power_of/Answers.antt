@@ -1,7 +1,0 @@
-use Rattle.std.proofs.Common.{arith}
-use Rattle.std.proofs.lemmas.Grind.{common_steps}
-use Rattle.opening.proofs.Powers.{power_within}
-use Rattle.opening.proofs.placing.power_of.Goals as goal
-
-pub map_or-requires : goal.map_or-requires
-map_or-requires c = λ x e w v f. let p = power_within c.args.powers.now c.args.letter in grind (arith, common_steps)
