@@ -94,7 +94,3 @@ degree_common a b = (degree_divisor (common a b) a (common_divides a b).0, degre
 -- a cube of degree 0 is the cube 1
 pub degree_none : (a : Powers) → degree a ≡ 0 → Same a unit
 degree_none a e l h = omega (arith, up_to_part letters a l h)
-
--- a letter that occurs counts
-pub degree_some : (a : Powers) (l : ℕ) → l < letters → a l ≤ degree a
-degree_some a l h = up_to_part letters a l h

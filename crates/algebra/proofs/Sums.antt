@@ -162,12 +162,6 @@ module _ {M N : Type 0} (a : Adding M) (b : Adding N) (g : M → N) (at_neutral 
 
 -- of whole numbers
 
-pub total_factor : {X : Type 0} (m : ℕ) (f : X → ℕ) (xs : List X) → total counting (λ x. m * f x) xs ≡ m * total counting f xs
-total_factor m f xs = total_through counting counting (λ x. m * x) (omega arith) (λ x y. omega arith) f xs
-
-pub up_to_factor : (m n : ℕ) (f : ℕ → ℕ) → up_to counting n (λ k. m * f k) ≡ m * up_to counting n f
-up_to_factor m n f = up_to_through counting counting (λ x. m * x) (omega arith) (λ x y. omega arith) n f
-
 pub total_constant : {X : Type 0} (m : ℕ) (xs : List X) → total counting (λ _. m) xs ≡ length xs * m
 total_constant m [] = omega arith
 total_constant m (x ∷ xs) = omega (arith, total_constant m xs)

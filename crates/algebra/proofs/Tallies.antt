@@ -11,7 +11,7 @@ use Rattle.algebra.specs.Sums.{counting}
 use Rattle.algebra.specs.Rows.{Row, Alike, degree, row_in}
 use Rattle.algebra.specs.Counts.{less_one, row_multiplications, multiplications, additions, all_negative, negations}
 use Rattle.algebra.specs.Laws.{CountLaws}
-use Rattle.algebra.proofs.Sums.{total_append, total_each, total_shuffled}
+use Rattle.algebra.proofs.Sums.{total_append, total_each}
 use Rattle.algebra.proofs.Degrees.{degree_unit, degree_letter, degree_product, degree_quotient, degree_same, degree_divisor, degree_common, degree_none}
 
 pub less_one_more : (n : ℕ) → 1 ≤ n → suc (less_one n) ≡ n
@@ -28,14 +28,8 @@ row_multiplications_alike r s h = ap less_one (degree_same r.cube s.cube h.cubes
 pub multiplications_append : (e f : List Row) → multiplications (e ++ f) ≡ multiplications e + multiplications f
 multiplications_append e f = total_append counting row_multiplications e f
 
-pub multiplications_shuffled : (e f : List Row) → IsPermutation e f → multiplications f ≡ multiplications e
-multiplications_shuffled e f s = total_shuffled counting row_multiplications e f s
-
 pub multiplications_alike : (e f : List Row) → AllZip Alike e f → multiplications e ≡ multiplications f
 multiplications_alike e f h = total_each counting Alike row_multiplications row_multiplications_alike e f h
-
-pub additions_shuffled : (e f : List Row) → IsPermutation e f → additions f ≡ additions e
-additions_shuffled e f s = ap less_one (length_permutation e f s)
 
 pub additions_alike : (e f : List Row) → AllZip Alike e f → additions e ≡ additions f
 additions_alike e f h = ap less_one (length_all_zip Alike e f h)

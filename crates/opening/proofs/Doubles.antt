@@ -32,7 +32,7 @@ same_row ns u t h l =
 -- the rows xs are the terms us written out, and a is the cube of t
 module _ (ns : List ℕ) (t : Term) (a : Powers) (is : Same a (written_row ns t).cube) where
   pub has_holds : (us : List Term) (xs : List Row) → AllZip Alike (map (written_row ns) us) (as_rows xs) → has_cube us t ≡ true → Holds xs a
-  has_holds [] [] e h = let z : ◌≡◌ {A = ℕ} 0 1 = cc in absurd (omega arith)
+  has_holds [] [] e h = absurd (cc)
   has_holds [] (x ∷ xs) e h = absurd e
   has_holds (u ∷ us) [] e h = absurd e
   has_holds (u ∷ us) (x ∷ xs) e h =

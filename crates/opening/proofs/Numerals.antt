@@ -18,7 +18,7 @@ place_free (n ∷ ns) m h =
 
 -- one numeral more keeps the places of those held, and its own
 pub place_push : (ns : List ℕ) (x m : ℕ) → (holds ns m ≡ true) ⊎ (x ≡ m) → place (ns ++ x ∷ []) m ≡ place ns m
-place_push [] x m (inl h) = let z : ◌≡◌ {A = ℕ} 0 1 = cc in absurd (omega arith)
+place_push [] x m (inl h) = absurd (cc)
 place_push [] x m (inr h) = ap (λ (b : Bool). cond b 0 1) (eq-eqb x m h)
 place_push (n ∷ ns) x m h =
     go (eqb n m) refl

@@ -1,5 +1,5 @@
 -- What enter answers and leaves, by the way it went.
-use Rattle.std.proofs.Common.{◌≡◌, ℕ, ◌+◌, List, [], ◌∷◌, ◌++◌, get_or, Ok, Err, Result, sym, refl, ap, ◌∙◌, subst, subst₂, arith}
+use Rattle.std.proofs.Common.{◌≡◌, ℕ, ◌+◌, List, [], ◌∷◌, ◌++◌, get_or, Ok, Err, Result, sym, refl, ap, ◌∙◌, subst, subst₂}
 use mathlib.Core.Logic.{∥∥₁_map}
 use Rattle.algebra.specs.Cubes.{Same, product}
 use Rattle.cubes.specs.Powers.{power}
@@ -63,5 +63,5 @@ module _ (s : OpenStyle) (t : Term) (m p : ℕ) (qs : List ℕ) (passed : Passes
     taken s' e f = record {
       answer = zero_refusal;
       held = λ offered h. subst₂ (Holds (accepted (offered ++ t ∷ []))) (sym e) (sym f) (holds_next offered h);
-      same = λ why q. absurd (let z : ◌≡◌ {A = ℕ} 0 1 = cc in omega arith);
+      same = λ why q. absurd (cc);
     }

@@ -112,29 +112,29 @@ module _ {S R : Type 0} (c : CommRing S) (meaning : R → S) (measures : List R)
   -- what an emitted sheet's rule says
   emit_rule : {P : Type 0} {p : Press} {o : Outcome R} {t t' : Table} (sheet : Sheet) (values : Vec R Global) → Rule c meaning measures p o t t' → o ≡ Emitted sheet values
       → ((buffer : List Step) → EmitMade t buffer sheet → Worth c meaning sheet measures (vec_items values) → P) → P
-  emit_rule sheet values (by_kernels l e h) q f = let z : ◌≡◌ {A = ℕ} 0 1 = cc in absurd (omega arith)
-  emit_rule sheet values (by_factor l e h) q f = let z : ◌≡◌ {A = ℕ} 0 1 = cc in absurd (omega arith)
-  emit_rule sheet values (by_share h) q f = let z : ◌≡◌ {A = ℕ} 0 1 = cc in absurd (omega arith)
-  emit_rule sheet values (by_settle l e h) q f = let z : ◌≡◌ {A = ℕ} 0 1 = cc in absurd (omega arith)
+  emit_rule sheet values (by_kernels l e h) q f = absurd (cc)
+  emit_rule sheet values (by_factor l e h) q f = absurd (cc)
+  emit_rule sheet values (by_share h) q f = absurd (cc)
+  emit_rule sheet values (by_settle l e h) q f = absurd (cc)
   emit_rule sheet values (by_emit {t} {sheet = s₁} {values = v₁} buffer e h v) q f =
       let a : s₁ ≡ sheet = cc in
       let b : v₁ ≡ values = cc in
       f buffer (subst (EmitMade t buffer) a h) (subst₂ (λ (x : Sheet) (y : Vec R Global). Worth c meaning x measures (vec_items y)) a b v)
-  emit_rule sheet values (by_refusal h) q f = let z : ◌≡◌ {A = ℕ} 0 1 = cc in absurd (omega arith)
+  emit_rule sheet values (by_refusal h) q f = absurd (cc)
 
   -- what a settle that was accepted leaves
   settle_rule : {p : Press} {o : Outcome R} {t t' : Table} (w places : ℕ) (list : Vec Kernel Global) (a : SettleAnswer) → Rule c meaning measures p o t t'
       → p ≡ Settle w places → o ≡ SettleOut list (Ok a) → a.end ≡ NothingLeft → LeavesNothing w t'
-  settle_rule w places list a (by_kernels l e h) q r n = let z : ◌≡◌ {A = ℕ} 0 1 = cc in absurd (omega arith)
-  settle_rule w places list a (by_factor l e h) q r n = let z : ◌≡◌ {A = ℕ} 0 1 = cc in absurd (omega arith)
-  settle_rule w places list a (by_share h) q r n = let z : ◌≡◌ {A = ℕ} 0 1 = cc in absurd (omega arith)
+  settle_rule w places list a (by_kernels l e h) q r n = absurd (cc)
+  settle_rule w places list a (by_factor l e h) q r n = absurd (cc)
+  settle_rule w places list a (by_share h) q r n = absurd (cc)
   settle_rule w places list a (by_settle {t} {t'} {w = w₁} {answer = Ok b} l e h) q r n =
       let same : w₁ ≡ w = cc in
       let done : b.end ≡ NothingLeft = ap (λ (x : SettleAnswer). x.end) (let i : b ≡ a = cc in i) ∙ n in
       subst (λ (x : ℕ). LeavesNothing x t') same (course_left w₁ h.1 tt done)
-  settle_rule w places list a (by_settle {answer = Err why} l e h) q r n = let z : ◌≡◌ {A = ℕ} 0 1 = cc in absurd (omega arith)
-  settle_rule w places list a (by_emit buffer e h v) q r n = let z : ◌≡◌ {A = ℕ} 0 1 = cc in absurd (omega arith)
-  settle_rule w places list a (by_refusal h) q r n = let z : ◌≡◌ {A = ℕ} 0 1 = cc in absurd (omega arith)
+  settle_rule w places list a (by_settle {answer = Err why} l e h) q r n = absurd (cc)
+  settle_rule w places list a (by_emit buffer e h v) q r n = absurd (cc)
+  settle_rule w places list a (by_refusal h) q r n = absurd (cc)
 
   pub promise_kept : (offered : List Term) (presses : List Press) (outcomes : List (Outcome R)) → (k : Played c meaning measures (accepted offered) presses outcomes)
       → Sound (k.tables 0) → Promise c meaning measures offered presses outcomes

@@ -17,7 +17,7 @@ use Rattle.rewriting.proofs.Parts.{equal_true}
 
 -- a numeral is at its place
 pub place_holds : (ns : List ℕ) (m : ℕ) → holds ns m ≡ true → (place ns m < length ns) × (get_or ns (place ns m) 0 ≡ m)
-place_holds [] m h = let z : ◌≡◌ {A = ℕ} 0 1 = cc in absurd (omega arith)
+place_holds [] m h = absurd (cc)
 place_holds (n ∷ ns) m h = go (eqb n m) refl (place_holds ns m)
   where
     go : (b : Bool) → eqb n m ≡ b → (holds ns m ≡ true → (place ns m < length ns) × (get_or ns (place ns m) 0 ≡ m)) → (cond b 0 (suc (place ns m)) < suc (length ns)) × (get_or (n ∷ ns) (cond b 0 (suc (place ns m))) 0 ≡ m)

@@ -89,7 +89,7 @@ module _ (s : Style) (columns : List Row) where
     where
       go : (b : Bool) → b ≡ true → 1 ≤ length (cond b (take_of s columns k ∷ []) [])
       go true e = omega arith
-      go false e = let z : ◌≡◌ {A = ℕ} 0 1 = cc in absurd (omega arith)
+      go false e = absurd (cc)
   taken_some (k ∷ ks) (suc p) l h = go (takes_next s columns [] k) (taken_some ks p (omega arith) h)
     where
       go : (b : Bool) → 1 ≤ length (taken_after s columns [] ks) → 1 ≤ length (taken_after s columns (cond b (take_of s columns k ∷ []) []) ks)

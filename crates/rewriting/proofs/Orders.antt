@@ -90,7 +90,7 @@ module _ (s : Style) (next : ℕ → List Row) (part : List Row) (named : ℕ �
 
   -- up to it
   upto : (es seen : List ℕ) → AllByRecursion (λ (e : ℕ). e < p) es → (k : ℕ) → has es k ≡ true → named k ≡ true → Backwards s.expression seen es → Backwards new seen (put named p es)
-  upto [] seen l k h n b = let z : ◌≡◌ {A = ℕ} 0 1 = cc in absurd (omega arith)
+  upto [] seen l k h n b = absurd (cc)
   upto (e ∷ es) seen l k h n b = go (named e) refl (λ q. upto es (e ∷ seen) l.1 k q n b.1)
     where
       go : (v : Bool) → named e ≡ v → (has es k ≡ true → Backwards new (e ∷ seen) (put named p es)) → Backwards new seen (cond v (p ∷ e ∷ es) (e ∷ put named p es))
@@ -153,7 +153,7 @@ module _ (s : Style) (columns : List Row) (taken : List Taken) (k : Takes s colu
   factor_here e seen l n m = part_all (MadeOf seen) (λ _ w. w) columns (go taken n k.behind)
     where
       go : (ts : List Taken) → factored_from ts e ≡ true → AllByRecursion (λ (t : Taken). Behind (s.expression t.expression) t.co_kernel t.places columns) ts → AllByRecursion (MadeOf seen) columns
-      go [] h b = let z : ◌≡◌ {A = ℕ} 0 1 = cc in absurd (omega arith)
+      go [] h b = absurd (cc)
       go (t ∷ ts) h b =
           ⊎_elim
           (λ q. All-weaker _ _ (λ col w j g r. ⊎_elim (λ z. inl (omega arith)) (λ z. inr z) (w j g r)) columns
@@ -190,7 +190,7 @@ module _ (s : Style) (cube : Powers) (k : Shares s cube) where
   share_apart (r ∷ rs) seen n m = let q = or_parts (divides_test cube r.cube) (any_divided cube rs) n in (share_row seen r (inl q.0) m.0, share_apart rs seen q.1 m.1)
 
   share_here : (rows : List Row) (seen : List ℕ) → any_divided cube rows ≡ true → AllByRecursion (MadeOf seen) rows → AllByRecursion (MadeOf seen) (cube_part cube)
-  share_here [] seen n m = let z : ◌≡◌ {A = ℕ} 0 1 = cc in absurd (omega arith)
+  share_here [] seen n m = absurd (cc)
   share_here (r ∷ rs) seen n m =
       ⊎_elim
       (λ q. ((λ l g h. ⊎_elim (λ z. inl (omega (arith, quotient_times r.cube cube q l h))) (λ z. inr z) (m.0 l g h)), tt))

@@ -59,7 +59,7 @@ positives_none (r ∷ rs) h = go r.negative (all_negative rs) h (positives_none 
     go false v e r = cc
 
 pub positives_some : (e : List Row) → all_negative e ≡ false → 1 ≤ positives e
-positives_some [] h = let z : ◌≡◌ {A = ℕ} 0 1 = cc in omega arith
+positives_some [] h = absurd (cc)
 positives_some (r ∷ rs) h = go r.negative (all_negative rs) h (positives_some rs)
   where
     go : (b v : Bool) → (b && v) ≡ false → (v ≡ false → 1 ≤ positives rs) → 1 ≤ cond b 0 1 + positives rs

@@ -32,7 +32,7 @@ alike_true r s h =
 
 -- a row that is found is alike the row at its place
 spot_found : (rows : List Row) (r : Row) → found rows r ≡ true → (spot rows r < length rows) × Alike (row_in rows (spot rows r)) r
-spot_found [] r h = let z : ◌≡◌ {A = ℕ} 0 1 = cc in absurd (omega arith)
+spot_found [] r h = absurd (cc)
 spot_found (x ∷ xs) r h = go (alike x r) refl (spot_found xs r)
   where
     go : (b : Bool) → alike x r ≡ b → (found xs r ≡ true → (spot xs r < length xs) × Alike (row_in xs (spot xs r)) r)

@@ -291,9 +291,6 @@ module _ (s : Style) (cube : Powers) (k : Shares s cube) (z : Closed s) where
   abbrev p : ℕ
   p = standing s
 
-  abbrev divided_cube : Powers → Powers
-  divided_cube a = cond (divides_test cube a) (product (quotient a cube) (letter p)) a
-
   share_below : (r : Row) → Below p r → Below (suc p) (shared_row p cube r)
   share_below r b l h m = go (divides_test cube r.cube)
     where

@@ -1,5 +1,5 @@
 -- What follows from the course of a settle.
-use Rattle.std.proofs.Common.{◌≡◌, ℕ, ◌+◌, List, take, sym, subst, subst₂, add_assoc, zero-add, arith}
+use Rattle.std.proofs.Common.{◌≡◌, ℕ, ◌+◌, List, take, sym, subst, subst₂, add_assoc, zero-add}
 use Rattle.kernels.specs.declared.kernel.Kernel.{Kernel}
 use Rattle.rewriting.specs.Presses.{Presses, more, none}
 use Rattle.rewriting.specs.Styles.{Style}
@@ -60,9 +60,9 @@ pub course_left : (w : ℕ) {turn : Turn} {t t' : Table} {l l' : List Kernel} {r
 course_left w (factored f c) k e = course_left w c tt e
 course_left w (no_gain {t} {t₁} {t'} {l} {l₁} f c) k e =
     course_left w c (subst (NoFactor w) (sym f.0) (record { kernels = take f.1.2.0 l₁; are = f.1.2.1.listed; no_set = f.1.2.2 })) e
-course_left w (short_list f) k e = let z : ◌≡◌ {A = ℕ} 0 1 = cc in absurd (omega arith)
-course_left w (full_parts f) k e = let z : ◌≡◌ {A = ℕ} 0 1 = cc in absurd (omega arith)
+course_left w (short_list f) k e = absurd (cc)
+course_left w (full_parts f) k e = absurd (cc)
 course_left w (shared f c) k e = course_left w c tt e
-course_left w (no_part f) k e = let z : ◌≡◌ {A = ℕ} 0 1 = cc in absurd (omega arith)
+course_left w (no_part f) k e = absurd (cc)
 course_left w (no_cube {t} {t₁} f) k e =
     subst (LeavesNothing w) (sym f.0) (record { kernels = k.kernels; are = k.are; no_set = k.no_set; no_cube = no_pair_no_cube (style_of t) f.1.1 })
