@@ -1,4 +1,4 @@
-ghost use Rattle.std.specs.Prelude.{◌≡◌, ◌≤◌, true, false, not, length, slice_index};
+ghost use Rattle.std.specs.Prelude.{◌≡◌, ◌≤◌, not, slice_index};
 ghost use Rattle.std.specs.Int.Signed.{non_neg};
 ghost use Rattle.algebra.specs.Cubes.{Same, product};
 ghost use Rattle.cubes.specs.Powers.{power};
@@ -6,7 +6,6 @@ ghost use Rattle.cubes.specs.Rows.{minus};
 ghost use Rattle.rewriting.specs.Book.{place};
 ghost use Rattle.sheet.specs.Numerals.{numerals_list};
 ghost use Rattle.opening.specs.Room.{is_new, numeral_cube};
-ghost use Rattle.opening.specs.Checks.{power_sum};
 
 use crate::powers::{MEASURES, TermPowers};
 use cubes::{Cube, Sign};
