@@ -1,62 +1,66 @@
 -- The factors of a product, one after another.
-use Rattle.std.proofs.Common.{◌≡◌, ℕ, zero, suc, ◌+◌, ◌-◌, ◌<◌, ◌≤◌, true, List, [], ◌∷◌, ◌++◌, map, length, set, replicate, Some, None, Option, sym, refl, ap, ◌∙◌, subst, ⊎_elim, add-one, arith}
+use Rattle.std.proofs.Common.{◌≡◌, ℕ, zero, suc, ◌+◌, ◌-◌, ◌<◌, ◌≤◌, List, [], ◌∷◌, ◌++◌, map, length, replicate, Some, None, Option, option_to_list, sym, refl, ap, ◌∙◌, subst, ⊎_elim, add-one, add-zero, arith}
 use lib.LanesLaws.{map-replicate}
-use Rattle.std.proofs.lemmas.List.{length-map, map-append, map_push}
+use Rattle.std.proofs.lemmas.List.{length-map, map-append}
 use Rattle.std.proofs.lemmas.Bool.{cases_lt, true≢false, false≢true}
 use Rattle.sheet.specs.declared.operand.Operand.{Operand}
-use Rattle.sheet.specs.declared.operand.Operand.TheVariants.{ResultOf}
 use Rattle.sheet.specs.declared.operation.Operation.TheVariants.{Mul}
-use Rattle.sheet.specs.declared.step.Step.{Step}
 use Rattle.algebra.specs.Counts.{less_one}
 use Rattle.algebra.specs.Cubes.{Powers, letters}
 use Rattle.algebra.specs.Rows.{degree}
 use Rattle.algebra.specs.Sums.{counting, up_to}
 use Rattle.algebra.proofs.Sums.{up_to_more}
-use Rattle.emission.specs.Steps.{Link, chain_steps, letters_below, product_chain, steps_from}
-use Rattle.emitter.specs.declared.chain.Made.{Made}
-use Rattle.emitter.specs.Chained.{Chained}
-use Rattle.emitter.specs.Multiplied.{Multiplied, has_factor, next_step, steps_for}
-use Rattle.emission.proofs.Chains.{length_steps}
+use Rattle.emission.specs.Steps.{Link, chain_end, chain_steps, letters_below, product_chain}
 use Rattle.emission.proofs.Letters.{letters_length}
-use Rattle.emitter.proofs.Writes.{chained_push, puts_none}
+use Rattle.emitter.specs.declared.draft.Draft.{Draft}
+use Rattle.emitter.specs.Appended.{Appended, HasRoom}
+use Rattle.emitter.specs.Multiplied.{Multiplied}
+use Rattle.emitter.proofs.Writes.{appended_none, appended_then, chained_next, chained_none, chained_same, chained_then}
 
-pub multiplied_none : (old : List Step) (at : ℕ) → Multiplied old at [] None old
-multiplied_none old at = record { puts = puts_none old at; end = refl; some = refl }
+pub multiplied_none : (d : Draft) → Multiplied d [] None d
+multiplied_none d = record { chain = record { steps = appended_none d; end = refl }; some = refl }
 
-pub multiplied_first : (old : List Step) (at : ℕ) (fs : List Operand) (new : List Step) (f : Operand)
-    → Multiplied old at fs None new → Multiplied old at (fs ++ f ∷ []) (Some (record { result = f; next = at })) new
-multiplied_first old at [] new f m = record { puts = m.puts; end = refl; some = refl }
-multiplied_first old at (x ∷ xs) new f m = absurd (false≢true m.some)
+pub multiplied_one : (d : Draft) (f : Operand) → Multiplied d (f ∷ []) (Some f) d
+multiplied_one d f = record { chain = chained_none d f; some = refl }
 
-pub multiplied_more : (old : List Step) (at : ℕ) (fs : List Operand) (made : Made) (new : List Step) (f : Operand) → Multiplied old at fs (Some made) new → made.next < length new
-    → Multiplied old at (fs ++ f ∷ []) (Some (record { result = ResultOf made.next; next = made.next + 1 })) (set new made.next (record { operation = Mul; left = made.result; right = f }))
-multiplied_more old at [] made new f m room = absurd (true≢false m.some)
-multiplied_more old at (x ∷ xs) made new f m room =
-    let new' = set new made.next (record { operation = Mul; left = made.result; right = f }) in
-    let before : Chained old at x (map (λ y. (Mul, y)) xs) made.next made.result new = record { puts = m.puts; end = m.end } in
-    let after : Chained old at x (map (λ y. (Mul, y)) (xs ++ f ∷ [])) (made.next + 1) (ResultOf made.next) new' =
-    subst (λ (ks : List Link). Chained old at x ks (made.next + 1) (ResultOf made.next) new') (sym (map_push (λ (y : Operand). (Mul, y)) xs f)) (chained_push (Mul, f) before room) in
-    record { puts = after.puts; end = after.end; some = refl }
+pub multiplied_same : {old new new' : Draft} {fs fs' : List Operand} {product product' : Option Operand} → Multiplied old fs product new → fs ≡ fs' → product' ≡ product → new' ≡ new
+    → Multiplied old fs' product' new'
+multiplied_same {old} {new} {new'} {fs} {fs'} {product} {product'} m e p d =
+    subst (λ (xs : List Operand). Multiplied old xs product' new') e
+    (subst (λ (o : Option Operand). Multiplied old fs o new') (sym p)
+    (subst (λ (x : Draft). Multiplied old fs product x) (sym d) m))
 
-pub multiplied_same : {old : List Step} {at : ℕ} {fs fs' : List Operand} {product product' : Option Made} {new new' : List Step}
-    → Multiplied old at fs product new → fs ≡ fs' → product' ≡ product → new' ≡ new → Multiplied old at fs' product' new'
-multiplied_same {old} {at} {fs} {fs'} {product} {product'} {new} {new'} m e p s =
-    subst (λ (xs : List Operand). Multiplied old at xs product' new') e
-    (subst (λ (o : Option Made). Multiplied old at fs o new') (sym p)
-    (subst (λ (xs : List Step). Multiplied old at fs product xs) (sym s) m))
+-- how many steps are written: the first factor takes none
+pub multiplied_next : {old new : Draft} (fs : List Operand) (product : Option Operand) → Multiplied old fs product new
+    → record { next : new.next ≡ old.next + (length fs - 1); factors : new.next + length (option_to_list product) ≡ old.next + length fs }
+multiplied_next [] None m = let e = m.chain.steps.next in record { next = omega arith; factors = omega arith }
+multiplied_next [] (Some y) m = absurd (true≢false m.some)
+multiplied_next (x ∷ fs) None m = absurd (false≢true m.some)
+multiplied_next {old} {new} (x ∷ fs) (Some y) m =
+    let link : Operand → Link = λ y. (Mul, y) in
+    let e : new.next ≡ old.next + length (map link fs) = chained_next m.chain in
+    let s : length (map link fs) ≡ length fs = length-map fs link in
+    record { next = omega arith; factors = omega arith }
 
--- a step's place is there where one more factor takes a step
-pub factor_room : (at n : ℕ) (made : Made) (product : Option Made) (bound : ℕ) → product ≡ Some made → 0 < n → next_step at product + steps_for product n ≤ bound → made.next < bound
-factor_room at n made None bound e some h = let z : ◌≡◌ {A = ℕ} 0 1 = cc in absurd (omega arith)
-factor_room at n made (Some m) bound e some h = let q : m.next ≡ made.next = cc in omega arith
-
-pub factor_after : (at n j : ℕ) (made : Made) (product : Option Made) (bound : ℕ) → product ≡ Some made → j < n → next_step at product + steps_for product (n - j) ≤ bound → made.next + 1 + (n - (j + 1)) ≤ bound
-factor_after at n j made None bound e some h = let z : ◌≡◌ {A = ℕ} 0 1 = cc in absurd (omega arith)
-factor_after at n j made (Some m) bound e some h = let q : m.next ≡ made.next = cc in omega arith
-
-pub first_after : (at n j : ℕ) (product : Option Made) (bound : ℕ) → product ≡ None → j < n → next_step at product + steps_for product (n - j) ≤ bound → at + (n - (j + 1)) ≤ bound
-first_after at n j None bound e some h = omega arith
-first_after at n j (Some m) bound e some h = let z : ◌≡◌ {A = ℕ} 0 1 = cc in absurd (omega arith)
+-- more factors on the product of some
+pub multiplied_then : {old mid new : Draft} (fs gs : List Operand) (product : Option Operand) {last : Option Operand} → Multiplied old fs product mid → Multiplied mid (option_to_list product ++ gs) last new
+    → Multiplied old (fs ++ gs) last new
+multiplied_then (x ∷ fs) gs None p q = absurd (false≢true p.some)
+multiplied_then [] gs (Some y) p q = absurd (true≢false p.some)
+multiplied_then {old} {mid} {new} [] gs None {last} p q =
+    let same : mid.next ≡ old.next = p.chain.steps.next ∙ add-zero old.next in
+    record {
+      chain = record {
+        steps = subst (λ (n : ℕ). Appended old (chain_steps n (product_chain gs)) new) same (appended_then p.chain.steps q.chain.steps);
+        end = q.chain.end ∙ ap (λ (n : ℕ). chain_end n (product_chain gs)) same;
+      };
+      some = q.some;
+    }
+multiplied_then {old} {mid} {new} (x ∷ fs) gs (Some y) {last} p q =
+    record {
+      chain = chained_same (chained_then p.chain q.chain) (sym (map-append (λ (z : Operand). (Mul, z)) fs gs));
+      some = q.some;
+    }
 
 -- the letters below l, as factors
 module _ (f : ℕ → Operand) (a : Powers) where
@@ -88,22 +92,12 @@ module _ (f : ℕ → Operand) (a : Powers) where
   less_one_is zero = refl
   less_one_is (suc n) = omega arith
 
-  -- one letter more has its steps' places
-  pub letter_room : (old : List Step) (at l : ℕ) (product : Option Made) (new : List Step) → Multiplied old at (factors l) product new → l < letters
-      → next_step at product + steps_for product (a l) ≤ at + less_one (degree a)
-  letter_room old at l None new m low =
-      let up = degree_up l letters low in
-      let d = less_one_is (degree a) in
-      omega arith
-  letter_room old at l (Some made) new m low =
+  -- one letter more has room for its steps
+  pub letter_room : {old new : Draft} (l : ℕ) (product : Option Operand) → Multiplied old (factors l) product new → l < letters → HasRoom old (less_one (degree a)) → HasRoom new (length (option_to_list product) + a l - 1)
+  letter_room {old} {new} l product m low room =
       let up = degree_up l letters low in
       let d = less_one_is (degree a) in
       let len = factors_length l in
-      let n = next (factors l) m.puts.place m.some in
+      let n = multiplied_next (factors l) product m in
+      let long = m.chain.steps.long in
       omega arith
-    where
-      next : (fs : List Operand) → made.next ≡ at + length (chain_steps at (product_chain fs)) → true ≡ has_factor fs → made.next + 1 ≡ at + length fs
-      next [] place some = absurd (true≢false some)
-      next (x ∷ xs) place some =
-          let e : length (steps_from at x (map (λ y. (Mul, y)) xs)) ≡ length xs = length_steps at x (map (λ y. (Mul, y)) xs) ∙ length-map xs (λ y. (Mul, y)) in
-          omega arith

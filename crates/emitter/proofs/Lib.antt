@@ -1,6 +1,5 @@
 pub mod Writes
-pub mod Signs
 pub mod Factors
+pub mod Signs
 pub mod Pushes
 pub mod Tables
-pub mod Ends

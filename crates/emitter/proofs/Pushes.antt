@@ -10,11 +10,12 @@ use Rattle.cubes.specs.declared.row.Row.{Row}
 use Rattle.cubes.specs.Powers.{power}
 use Rattle.cubes.specs.Rows.{as_row, as_rows}
 use Rattle.emission.specs.Steps.{Signed, chain_end, chain_steps, emitted, expression_result, expression_steps, products, resulting, row_chain, sum_chain, summands}
-use Rattle.emitter.specs.Puts.{Puts}
+use Rattle.emitter.specs.declared.draft.Draft.{Draft}
+use Rattle.emitter.specs.Appended.{Appended}
 use Rattle.emitter.specs.Chained.{Built}
 use Rattle.emission.proofs.Chains.{length_steps}
 use Rattle.emission.proofs.Counting.{products_length}
-use Rattle.emitter.proofs.Writes.{puts_same, puts_then}
+use Rattle.emitter.proofs.Writes.{appended_same, appended_then}
 
 module _ (results : List Operand) where
   pub products_next : (n : ℕ) (r : Term) (rows : List Term) → n + length (row_chain results r).links + length (products results (n + length (row_chain results r).links) rows) ≡ n + length (products results n (r ∷ rows))
@@ -56,18 +57,14 @@ expression_parts results n rows =
     ∙ ap₂ (λ (i j : ℕ). i + j) (products_length results n rows) (length_steps m k.start k.links)
 
 -- the products, and then the sum of their operands
-pub record Expressed (old : List Step) (results : List Operand) (n : ℕ) (rows : List Term) (next : ℕ) (result : Operand) (new : List Step) : Type 0 where
-  pub end : result ≡ expression_result results n rows
-  pub puts : Puts old n (expression_steps results n rows) next new
-
-pub expressed : {old mid new : List Step} (results : List Operand) (n : ℕ) (rows : List Term) {m next : ℕ} {result : Operand}
-    → Puts old n (products results n rows) m mid → Built mid m (sum_chain (summands results n rows)) next result new → Expressed old results n rows next result new
-expressed {old} {mid} {new} results n rows {m} {next} {result} p b =
-    let before = products results n rows in
-    let k = sum_chain (summands results n rows) in
+pub expressed : {old mid new : Draft} (results : List Operand) (rows : List Term) {result : Operand} → Appended old (products results old.next rows) mid → Built mid (sum_chain (summands results old.next rows)) result new
+    → record { end : result ≡ expression_result results old.next rows; steps : Appended old (expression_steps results old.next rows) new }
+expressed {old} {mid} results rows p b =
+    let before = products results old.next rows in
+    let k = sum_chain (summands results old.next rows) in
     record {
-      end = b.end ∙ ap (λ (i : ℕ). chain_end i k) p.place;
-      puts = puts_same (before ++ chain_steps m k) (expression_steps results n rows) (ap (λ (i : ℕ). before ++ chain_steps i k) p.place) (puts_then p b.puts);
+      end = b.end ∙ ap (λ (n : ℕ). chain_end n k) p.next;
+      steps = appended_same (appended_then p b.steps) (ap (λ (n : ℕ). before ++ chain_steps n k) p.next);
     }
 
 module _ (rows : ℕ → List Term) where

@@ -1,22 +1,20 @@
--- Chains that are written into a buffer.
-use Rattle.std.specs.Prelude.{◌≡◌, ℕ, ◌<◌, ◌≤◌, List, map, length, take, drop, slice_index_or}
+-- Chains of steps that are written behind a draft.
+use Rattle.std.specs.Prelude.{◌≡◌, List, map}
 use Rattle.sheet.specs.declared.operand.Operand.{Operand}
-use Rattle.sheet.specs.declared.operation.Operation.{Operation}
-use Rattle.sheet.specs.declared.step.Step.{Step}
-use Rattle.cubes.specs.declared.row.Sign.TheVariants.{Plus}
 use Rattle.cubes.specs.Rows.{minus}
-use Rattle.emission.specs.Steps.{Chain, Link, Signed, end_from, steps_from, sum_behind, sum_chain}
+use Rattle.emission.specs.Steps.{Chain, Link, Signed, end_from, steps_from}
+use Rattle.emitter.specs.declared.draft.Draft.{Draft}
 use Rattle.emitter.specs.declared.sums.Summand.{Summand}
-use Rattle.emitter.specs.Puts.{Puts}
+use Rattle.emitter.specs.Appended.{Appended}
 
--- the links `ks` on x are written from `at` on; `result` is what they come to
-pub record Chained (old : List Step) (at : ℕ) (x : Operand) (ks : List Link) (next : ℕ) (result : Operand) (new : List Step) : Type 0 where
-  pub puts : Puts old at (steps_from at x ks) next new
-  pub end : result ≡ end_from at x ks
+-- the links `ks` on x are written; `result` is what they come to
+pub record Chained (old : Draft) (x : Operand) (ks : List Link) (result : Operand) (new : Draft) : Type 0 where
+  pub steps : Appended old (steps_from old.next x ks) new
+  pub end : result ≡ end_from old.next x ks
 
--- a chain is written from `at` on
-abbrev pub Built : List Step → ℕ → Chain → ℕ → Operand → List Step → Type 0
-Built old at k next result new = Chained old at k.start k.links next result new
+-- a chain is written
+abbrev pub Built : Draft → Chain → Operand → Draft → Type 0
+Built old k result new = Chained old k.start k.links result new
 
 -- terms, as the definition of the steps has them
 abbrev pub signed_one : Summand → Signed
@@ -27,13 +25,3 @@ signed ts = map signed_one ts
 
 abbrev pub operands : List Summand → List Operand
 operands ts = map (λ t. t.operand) ts
-
--- the same operation with each of the terms
-abbrev pub each : Operation → List Summand → List Link
-each op ts = map (λ t. (op, t.operand)) ts
-
--- p is the place of the first positive term, or their number if there is none
-pub record First (ts : List Summand) (p : ℕ) : Type 0 where
-  pub within : p ≤ length ts
-  pub split : sum_chain (signed ts) ≡ sum_behind (operands (take p ts)) (signed (drop p ts))
-  pub positive : (d : Summand) → p < length ts → (slice_index_or ts p d).sign ≡ Plus

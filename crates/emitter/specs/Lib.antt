@@ -1,4 +1,4 @@
-pub mod Puts
+pub mod Appended
 pub mod Chained
 pub mod Multiplied
 pub mod Operations

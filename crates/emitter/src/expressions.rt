@@ -1,61 +1,54 @@
-ghost use Rattle.std.specs.Prelude.{◌≡◌, ◌+◌, ◌≤◌, length, take};
+ghost use Rattle.std.specs.Prelude.{◌≡◌, ◌≤◌, length};
 ghost use Rattle.algebra.specs.Counts.{multiplications};
 ghost use Rattle.cubes.specs.Rows.{as_rows};
+ghost use Rattle.few.specs.Listed.{listed};
 ghost use Rattle.emission.specs.Steps.{products, summands, expression_steps, expression_result};
-ghost use Rattle.emitter.specs.Puts.{Puts};
+ghost use Rattle.emitter.specs.Appended.{Appended, HasRoom};
 ghost use Rattle.emitter.specs.Chained.{signed};
+ghost use Rattle.emitter.specs.Operations.{operations};
 
-use crate::chain::Made;
-use crate::products::write_product;
-use crate::sums::{Summand, write_sum};
-use cubes::{ROWS, Row, Sign};
-use sheet::{Operand, Step};
+use crate::draft::Draft;
+use crate::sums::Summand;
+use cubes::{ROWS, Row};
+use few::Few;
+use sheet::Operand;
+use table::EXPRESSIONS;
 
-// The products of the rows, one after another, and the term of each; answers the number of the next step.
-fn write_products(
-    results: &[Operand],
-    rows: &[Row],
-    steps: &mut [Step],
-    at: u16,
-    terms: &mut [Summand],
-) -> u16
-    requires all { length results.now ≡ 32 }
-    requires long { length rows.now ≤ length terms.old }
-    requires room { at + multiplications (as_rows rows.now) ≤ length steps.old }
-    requires few { at + multiplications (as_rows rows.now) ≤ 2000 }
-    ensures puts { Puts steps.old at (products results.now at (as_rows rows.now)) result steps.new }
-    ensures terms { signed (take (length rows.now) terms.new) ≡ summands results.now at (as_rows rows.now) }
-{
-    let mut next = at;
-    for i in 0..rows.len() {
-        let made = write_product(results, rows[i].cube, steps, next);
-        terms[i] = Summand {
-            sign: rows[i].sign,
-            operand: made.result,
-        };
-        next = made.next;
+impl Draft {
+    // The products of the rows, one after another; answers the term of each.
+    fn write_products(
+        &mut self,
+        results: &[Operand; EXPRESSIONS],
+        rows: &[Row],
+    ) -> Few<Summand, ROWS>
+        requires eight { length rows.now ≤ 8 }
+        requires room { HasRoom self.old (multiplications (as_rows rows.now)) }
+        ensures steps { Appended self.old (products results.now self.old.next (as_rows rows.now)) self.new }
+        ensures terms { signed (listed result) ≡ summands results.now self.old.next (as_rows rows.now) }
+    {
+        let mut terms = Few::new();
+        for row in rows {
+            let term = Summand {
+                sign: row.sign,
+                operand: self.write_product(results, row.cube),
+            };
+            let _there_is_room = terms.push(term);
+        }
+        terms
     }
-    next
-}
 
-// An expression of at most eight rows: its products, then their sum.
-pub(crate) fn write_expression(
-    results: &[Operand],
-    rows: &[Row],
-    steps: &mut [Step],
-    at: u16,
-) -> Made
-    requires all { length results.now ≡ 32 }
-    requires eight { length rows.now ≤ 8 }
-    requires room { at + length (expression_steps results.now at (as_rows rows.now)) ≤ length steps.old }
-    requires few { at + length (expression_steps results.now at (as_rows rows.now)) ≤ 2000 }
-    ensures result { result.result ≡ expression_result results.now at (as_rows rows.now) }
-    ensures puts { Puts steps.old at (expression_steps results.now at (as_rows rows.now)) result.next steps.new }
-{
-    let mut terms = [Summand {
-        sign: Sign::Plus,
-        operand: Operand::Zero,
-    }; ROWS];
-    let next = write_products(results, rows, steps, at, &mut terms);
-    write_sum(steps, next, &terms[0..rows.len()])
+    // An expression of at most eight rows: its products, then their sum.
+    pub(crate) fn write_expression(
+        &mut self,
+        results: &[Operand; EXPRESSIONS],
+        rows: &[Row],
+    ) -> Operand
+        requires eight { length rows.now ≤ 8 }
+        requires room { HasRoom self.old (operations (as_rows rows.now)) }
+        ensures result { result ≡ expression_result results.now self.old.next (as_rows rows.now) }
+        ensures steps { Appended self.old (expression_steps results.now self.old.next (as_rows rows.now)) self.new }
+    {
+        let terms = self.write_products(results, rows);
+        self.write_sum(terms.as_slice())
+    }
 }

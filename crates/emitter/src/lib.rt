@@ -1,8 +1,8 @@
 // The steps of a style's table, written into a buffer.
 #![tactic(auto)]
 
-mod chain;
 mod counts;
+mod draft;
 mod expressions;
 mod products;
 mod sums;

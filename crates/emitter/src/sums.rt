@@ -1,94 +1,91 @@
-ghost use Rattle.std.specs.Prelude.{◌+◌, ◌≤◌, map, length};
-ghost use Rattle.emission.specs.Steps.{signed_link, negated, sum_chain};
-ghost use Rattle.emitter.specs.Chained.{Chained, Built, First, each, operands, signed};
+ghost use Rattle.std.specs.Prelude.{◌≡◌, ◌+◌, map, not, length, position};
+ghost use Rattle.std.specs.Fn.{FnReturnsAt};
+ghost use Rattle.sheet.specs.declared.operation.Operation.{Operation};
+ghost use Rattle.cubes.specs.Rows.{minus};
+ghost use Rattle.emission.specs.Steps.{negated, signed_link, sum_chain};
+ghost use Rattle.emitter.specs.declared.sums.Summand.{Summand};
+ghost use Rattle.emitter.specs.Appended.{HasRoom};
+ghost use Rattle.emitter.specs.Chained.{Built, Chained, operands, signed, signed_one};
 
-use crate::chain::{Made, link};
+use crate::draft::Draft;
 use cubes::Sign;
-use sheet::{Operand, Operation, Step};
+use sheet::{Operand, Operation};
 
 // A row's sign, and the operand of its product.
 #[derive(Clone, Copy)]
-pub struct Summand {
-    pub sign: Sign,
-    pub operand: Operand,
+pub(crate) struct Summand {
+    pub(crate) sign: Sign,
+    pub(crate) operand: Operand,
 }
 
-// The place of the first positive term, or the number of the terms.
-fn first_positive(terms: &[Summand]) -> usize
-    ensures { First terms.now result }
-{
-    for i in 0..terms.len() {
-        if let Sign::Plus = terms[i].sign {
-            return i;
+impl Default for Summand {
+    fn default() -> Summand {
+        Summand {
+            sign: Sign::Plus,
+            operand: Operand::Zero,
         }
     }
-    terms.len()
 }
 
-// One operation with each of the terms, whatever their signs.
-fn link_each(steps: &mut [Step], start: Made, operation: Operation, terms: &[Summand]) -> Made
-    requires room { start.next + length terms.now ≤ length steps.old }
-    requires few { start.next + length terms.now ≤ 2000 }
-    ensures { Chained steps.old start.next start.result (each operation terms.now) result.next result.result steps.new }
-{
-    let mut made = start;
-    for i in 0..terms.len() {
-        made = link(steps, made, operation, terms[i].operand);
-    }
-    made
-}
-
-// Each of the terms added or subtracted, by its sign.
-fn link_signed(steps: &mut [Step], start: Made, terms: &[Summand]) -> Made
-    requires room { start.next + length terms.now ≤ length steps.old }
-    requires few { start.next + length terms.now ≤ 2000 }
-    ensures { Chained steps.old start.next start.result (map signed_link (signed terms.now)) result.next result.result steps.new }
-{
-    let mut made = start;
-    for i in 0..terms.len() {
-        let operation = match terms[i].sign {
+impl Summand {
+    // The operation that joins the term to those before it.
+    fn operation(&self) -> Operation
+        ensures { result ≡ (signed_link (signed_one self.now)).0 }
+    {
+        match self.sign {
             Sign::Plus => Operation::Add,
             Sign::Minus => Operation::Sub,
-        };
-        made = link(steps, made, operation, terms[i].operand);
+        }
     }
-    made
 }
 
-// The sum of terms that are all negative: added from the first, and then negated.
-fn write_negated(steps: &mut [Step], at: u16, terms: &[Summand]) -> Made
-    requires room { at + length terms.now ≤ length steps.old }
-    requires few { at + length terms.now ≤ 2000 }
-    ensures { Built steps.old at (negated (operands terms.now)) result.next result.result steps.new }
+// The place of the first positive term.
+fn first_positive(terms: &[Summand]) -> Option<usize>
+    ensures { result ≡ position (λ t. not (minus t.sign)) terms.now }
 {
-    if terms.len() == 0 {
-        return Made {
-            result: Operand::Zero,
-            next: at,
-        };
-    }
-    let start = Made {
-        result: terms[0].operand,
-        next: at,
-    };
-    let added = link_each(steps, start, Operation::Add, &terms[1..]);
-    link(steps, added, Operation::Neg, Operand::Zero)
+    terms.iter().position(|term| term.sign == Sign::Plus)
 }
 
-// The sum of terms, from the first positive one.
-pub(crate) fn write_sum(steps: &mut [Step], at: u16, terms: &[Summand]) -> Made
-    requires room { at + length (sum_chain (signed terms.now)).links ≤ length steps.old }
-    requires few { at + length (sum_chain (signed terms.now)).links ≤ 2000 }
-    ensures { Built steps.old at (sum_chain (signed terms.now)) result.next result.result steps.new }
-{
-    let first = first_positive(terms);
-    if first == terms.len() {
-        return write_negated(steps, at, terms);
+impl Draft {
+    // A step with each of the terms, one on the result of the other, by the operation that is chosen for the term.
+    fn link_all<F: Fn(&Summand) -> Operation>(
+        &mut self,
+        start: Operand,
+        terms: &[Summand],
+        operation: F,
+    ) -> Operand
+        requires callable { F.IsAlwaysCallable operation }
+        requires room { HasRoom self.old (length terms.now) }
+        ensures { (of : Summand → Operation) → ((t : Summand) (o : Operation) → FnReturnsAt F.Fn operation t o → o ≡ of t) → Chained self.old start (map (λ t. (of t, t.operand)) terms.now) result self.new }
+    {
+        let mut made = start;
+        for term in terms {
+            made = self.link(made, operation(term), term.operand);
+        }
+        made
     }
-    let start = Made {
-        result: terms[first].operand,
-        next: at,
-    };
-    let taken = link_each(steps, start, Operation::Sub, &terms[0..first]);
-    link_signed(steps, taken, &terms[first + 1..])
+
+    // The sum of terms that are all negative: added from the first, and then negated.
+    fn write_negated(&mut self, terms: &[Summand]) -> Operand
+        requires { HasRoom self.old (length terms.now) }
+        ensures { Built self.old (negated (operands terms.now)) result self.new }
+    {
+        let Some((first, rest)) = terms.split_first() else {
+            return Operand::Zero;
+        };
+        let added = self.link_all(first.operand, rest, |_| Operation::Add);
+        self.link(added, Operation::Neg, Operand::Zero)
+    }
+
+    // The sum of terms, from the first positive one.
+    pub(crate) fn write_sum(&mut self, terms: &[Summand]) -> Operand
+        requires { HasRoom self.old (length (sum_chain (signed terms.now)).links) }
+        ensures { Built self.old (sum_chain (signed terms.now)) result self.new }
+    {
+        let Some(first) = first_positive(terms) else {
+            return self.write_negated(terms);
+        };
+        let taken = self.link_all(terms[first].operand, &terms[..first], |_| Operation::Sub);
+        self.link_all(taken, &terms[first + 1..], Summand::operation)
+    }
 }

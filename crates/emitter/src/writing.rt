@@ -1,44 +1,33 @@
-ghost use Rattle.std.specs.Prelude.{◌≡◌, ◌<◌, ◌≤◌, min, length, Ok, Err, vec_len};
-ghost use Rattle.emitter.specs.Puts.{Puts};
+ghost use Rattle.std.specs.Prelude.{◌≡◌, ◌<◌, min, length, Ok, Err, vec_len};
+ghost use Rattle.emitter.specs.Appended.{Appended, HasRoom};
 ghost use Rattle.emitter.specs.Wrote.{Wrote, table_steps, table_outputs};
 
 use crate::counts::count_steps;
-use crate::expressions::write_expression;
+use crate::draft::Draft;
 use sheet::{Operand, Step};
 use table::{EXPRESSIONS, FORMULAS, Table};
 
 // How many steps a sheet has at most.
 const MOST_STEPS: usize = 2000;
 
-// The number of the steps, and the outputs of the formulas.
-#[derive(Clone, Copy)]
-struct Ends {
-    used: u16,
-    outputs: [Operand; FORMULAS],
-}
-
-// The expressions of a table in its making order, from the first place on.
-fn write_expressions(table: &Table, steps: &mut [Step]) -> Ends
-    requires room { length (table_steps table.now) ≤ length steps.old }
-    requires few { length (table_steps table.now) ≤ 2000 }
-    ensures puts { Puts steps.old 0 (table_steps table.now) result.used steps.new }
-    ensures outputs { result.outputs ≡ table_outputs table.now }
-{
-    let mut results = [Operand::Zero; EXPRESSIONS];
-    let mut next = 0;
-    for k in 0..table.standing() {
-        let e = table.order[k];
-        let made = write_expression(&results, table.rows(e), steps, next);
-        if e < EXPRESSIONS {
-            results[e] = made.result;
+impl Draft {
+    // The expressions of a table in its making order, from the first step on; answers the outputs of the formulas.
+    fn write_expressions(&mut self, table: &Table) -> [Operand; FORMULAS]
+        requires first { self.old.next ≡ 0 }
+        requires room { HasRoom self.old (length (table_steps table.now)) }
+        ensures steps { Appended self.old (table_steps table.now) self.new }
+        ensures outputs { result ≡ table_outputs table.now }
+    {
+        let mut results = [Operand::Zero; EXPRESSIONS];
+        for e in table.order() {
+            let made = self.write_expression(&results, table.rows(*e));
+            if *e < EXPRESSIONS {
+                results[*e] = made;
+            }
         }
-        next = made.next;
-    }
-    let mut outputs = [Operand::Zero; FORMULAS];
-    outputs.copy_from_slice(&results[0..FORMULAS]);
-    Ends {
-        used: next,
-        outputs,
+        let mut outputs = [Operand::Zero; FORMULAS];
+        outputs.copy_from_slice(&results[..FORMULAS]);
+        outputs
     }
 }
 
@@ -52,18 +41,21 @@ pub struct Written {
 
 // Writes the steps of a table into a buffer. The buffer comes back as it was where it is shorter than the steps, and where there
 // are more steps than a sheet has.
-pub fn write_steps(table: &Table, mut buffer: Vec<Step>) -> Result<Written, Vec<Step>>
+pub fn write_steps(table: &Table, buffer: Vec<Step>) -> Result<Written, Vec<Step>>
     ensures { elim result [ Ok w ↦ Wrote table.now buffer.items w.used w.steps.items w.outputs | Err b ↦ (b ≡ buffer) × (min 2000 (vec_len buffer) < length (table_steps table.now)) ] }
 {
     let count = count_steps(table);
     if count > MOST_STEPS || count > buffer.len() {
         return Err(buffer);
     }
-    let ends = write_expressions(table, &mut buffer);
-    let outputs = ends.outputs;
-    Ok(Written {
+    let mut draft = Draft {
         steps: buffer,
-        used: ends.used as usize,
+        next: 0,
+    };
+    let outputs = draft.write_expressions(table);
+    Ok(Written {
+        steps: draft.steps,
+        used: draft.next as usize,
         outputs,
     })
 }

@@ -1,38 +1,20 @@
-use Rattle.std.proofs.Common.{◌≡◌, ℕ, ◌+◌, ◌<◌, length, get_or, take, sym, ◌∙◌, subst, arith}
+use Rattle.std.proofs.Common.{sym, ◌∙◌, arith, rules, tests}
+use Rattle.std.proofs.lemmas.Iterator.{YieldsList-from_map, YieldsList-from_slice}
+use Rattle.std.proofs.lemmas.Iterator.Adapters.{at_most_from_yields_List, fits_from_length}
+use Rattle.std.proofs.lemmas.Iterator.Consumers.{sum_by_from_yields_List}
 use Rattle.table.specs.Of.{order_of, style_of}
 use Rattle.emission.specs.Steps.{none_made}
-use Rattle.emission.proofs.Counting.{emitted_length}
-use Rattle.emitter.proofs.Tables.{along_more, operations_along, operations_here, operations_past}
+use Rattle.emitter.specs.Operations.{operations}
+use Rattle.emitter.proofs.Tables.{emitted_sum, order_few}
 use Rattle.emitter.proofs.counts.count_steps.Goals as goal
-use Rattle.emitter.proofs.counts.count_steps.Goals.{then-e-lt-EXPRESSIONS, else-e-lt-EXPRESSIONS}
 
-pub loop-k-preserved : goal.loop-k-preserved
-loop-k-preserved c =
-    let t = c.args.table.now in
-    let k = c.loop-k.k in
-    let e = get_or t.order k 0 in
-    let few = t.few in
-    let places = t.places in
-    let h : k < length t.order = omega arith in
-    let more = along_more (style_of t).expression t.order k h in
-    let was = c.loop-k.invariant.0 in
-    let bound = c.loop-k.invariant.1 in
-    elim c.if-e-lt-EXPRESSIONS.branch [
-      | then-e-lt-EXPRESSIONS w ↦
-          let here = operations_here t e w.index-table-e.result w.if-e-lt-EXPRESSIONS.true in
-          let is = w.n-is in
-          let added = w.count_operations-n.ensures.is in
-          let small = w.count_operations-n.ensures.small in
-          (omega arith, omega arith)
-      | else-e-lt-EXPRESSIONS w ↦
-          let none = operations_past t e w.if-e-lt-EXPRESSIONS.false in
-          let is = w.n-is in
-          (omega arith, omega arith)
-    ]
+pub sum-requires-clause-fits : goal.sum-requires-clause-fits
+sum-requires-clause-fits c =
+    fits_from_length _ _ 32 _ (at_most_from_yields_List (YieldsList-from_slice (order_of c.args.table.now) cc) (order_few c.args.table.now)) c.map.ensures.closure (omega arith) (λ x r q k. search (rules, tests))
 
 pub returns : goal.returns
 returns c =
     let t = c.args.table.now in
-    let e : c.loop-k.k ≡ 16 + t.parts = omega arith in
-    subst (λ (k : ℕ). c.loop-k.n ≡ operations_along (style_of t).expression (take k t.order)) e c.loop-k.invariant.0
-    ∙ sym (emitted_length (style_of t).expression none_made 0 (order_of t))
+    sum_by_from_yields_List (λ e. operations ((style_of t).expression e)) (order_of t) c.map.result c.sum.result c.sum.ensures.ran
+    (YieldsList-from_map _ (λ e. operations ((style_of t).expression e)) (YieldsList-from_slice (order_of t) cc) c.map.ensures.closure (λ x r q k. search (rules, tests)))
+    ∙ sym (emitted_sum (style_of t).expression none_made 0 (order_of t))
