@@ -1,13 +1,13 @@
 -- Steps behind a draft, and chains that are written link by link.
-use Rattle.std.proofs.Common.{◌≡◌, ℕ, suc, ◌+◌, ◌<◌, List, [], ◌∷◌, ◌++◌, map, length, get_or, take, drop, sym, refl, ap, ◌∙◌, subst, ap₂, append_assoc, add-zero, arith}
-use Rattle.std.proofs.lemmas.List.{append-nil, length-append, drop-drop, map_more}
+use Rattle.std.proofs.Common.{◌≡◌, ℕ, suc, ◌+◌, ◌≤◌, List, [], ◌∷◌, ◌++◌, length, take, drop, sym, refl, ap, ◌∙◌, subst, ap₂, append_assoc, add-zero, arith}
+use Rattle.std.proofs.lemmas.List.{append-nil, length-append, drop-drop}
 use Rattle.sheet.specs.declared.operand.Operand.{Operand}
 use Rattle.sheet.specs.declared.operand.Operand.TheVariants.{ResultOf}
 use Rattle.sheet.specs.declared.step.Step.{Step}
 use Rattle.emission.specs.Steps.{Link, steps_from, end_from}
 use Rattle.emission.proofs.Chains.{length_steps}
 use Rattle.emitter.specs.declared.draft.Draft.{Draft}
-use Rattle.emitter.specs.Appended.{Appended, places}
+use Rattle.emitter.specs.Appended.{Appended, HasRoom, places}
 use Rattle.emitter.specs.Chained.{Chained}
 
 pub appended_none : (d : Draft) → Appended d [] d
@@ -30,11 +30,21 @@ appended_then {old} {mid} {new} {xs} {ys} p q =
 pub appended_same : {old new : Draft} {xs ys : List Step} → Appended old xs new → xs ≡ ys → Appended old ys new
 appended_same {old} {new} p same = subst (λ (zs : List Step). Appended old zs new) same p
 
+-- the room that is left
+pub room_left : {old new : Draft} {xs : List Step} (n m : ℕ) → Appended old xs new → HasRoom old n → length xs + m ≤ n → HasRoom new m
+room_left n m p room h =
+    let next = p.next in
+    let long = p.long in
+    omega arith
+
 pub chained_none : (d : Draft) (x : Operand) → Chained d x [] x d
 chained_none d x = record { steps = appended_none d; end = refl }
 
 pub chained_next : {old new : Draft} {x result : Operand} {ks : List Link} → Chained old x ks result new → new.next ≡ old.next + length ks
 chained_next {old = old} {x = x} {ks = ks} c = c.steps.next ∙ ap (λ (i : ℕ). old.next + i) (length_steps old.next x ks)
+
+pub room_linked : {old new : Draft} {x y : Operand} {ks : List Link} (n m : ℕ) → Chained old x ks y new → HasRoom old n → length ks + m ≤ n → HasRoom new m
+room_linked {old = old} {x = x} {ks = ks} n m p room h = room_left n m p.steps room (omega (arith, length_steps old.next x ks))
 
 steps_append : (n : ℕ) (x : Operand) (ks js : List Link) → steps_from n x (ks ++ js) ≡ steps_from n x ks ++ steps_from (n + length ks) (end_from n x ks) js
 steps_append n x [] js = ap (λ (m : ℕ). steps_from m x js) (sym (add-zero n))

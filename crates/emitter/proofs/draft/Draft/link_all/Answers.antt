@@ -4,7 +4,7 @@ use Rattle.std.proofs.lemmas.List.{map_more, take_all}
 use Rattle.sheet.specs.declared.operation.Operation.{Operation}
 use Rattle.emission.specs.Steps.{Link}
 use Rattle.emitter.specs.declared.sums.Summand.{Summand}
-use Rattle.emitter.proofs.Writes.{chained_none, chained_same, chained_then}
+use Rattle.emitter.proofs.Writes.{chained_same, chained_then, room_linked}
 use Rattle.emitter.proofs.draft.Draft.link_all.Goals as goal
 
 -- the link of one term more
@@ -14,18 +14,10 @@ link_more of ts i d o h e =
     let link : Summand → Link = λ t. (of t, t.operand) in
     ap (λ (p : Operation). map link (take i ts) ++ (p, (get_or ts i d).operand) ∷ []) e ∙ sym (map_more link ts i d h)
 
-pub loop-term-init : goal.loop-term-init
-loop-term-init g c = record { room = omega arith; chain = λ of same. chained_none _ _ }
-
-pub link-made-requires : goal.link-made-requires
-link-made-requires g c = omega arith
-
 pub loop-term-preserved : goal.loop-term-preserved
 loop-term-preserved g c =
-    let next = c.link-made.ensures.steps.next in
-    let long = c.link-made.ensures.steps.long in
     record {
-      room = omega arith;
+      room = room_linked _ _ c.link-made.ensures c.loop-term.invariant.room (omega arith);
       chain = λ of same.
           chained_same (chained_then (c.loop-term.invariant.chain of same) c.link-made.ensures)
           (link_more of c.args.terms.now c.loop-term.term-index _ _ c.loop-term-test.true (same _ _ (says_at g.F.Fn c.operation.ensures refl)));

@@ -1,7 +1,6 @@
-use Rattle.std.proofs.Common.{◌≡◌, ℕ, ◌+◌, List, [], ◌∷◌, ◌++◌, length, option_to_list, replicate, Option, sym, refl, ap, ◌∙◌, subst, append_assoc, arith}
+use Rattle.std.proofs.Common.{◌≡◌, ℕ, ◌+◌, List, [], ◌∷◌, ◌++◌, length, option_to_list, replicate, Option, sym, refl, ap, ◌∙◌, append_assoc, arith}
 use Rattle.std.proofs.lemmas.List.{length-append, length-replicate, replicate_more}
 use Rattle.sheet.specs.declared.operand.Operand.{Operand}
-use Rattle.emitter.specs.Multiplied.{Multiplied}
 use Rattle.emitter.proofs.Factors.{multiplied_next, multiplied_one, multiplied_same, multiplied_then}
 use Rattle.emitter.proofs.draft.Draft.multiply.Goals as goal
 use Rattle.emitter.proofs.draft.Draft.multiply.Goals.{in-None, in-Some}

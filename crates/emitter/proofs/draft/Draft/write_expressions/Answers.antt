@@ -7,7 +7,7 @@ use Rattle.table.specs.Of.{order_of, rows_at, style_of}
 use Rattle.emission.specs.Steps.{emitted, expression_result, expression_steps, none_made, resulting}
 use Rattle.emission.proofs.Makings.{resulting_length}
 use Rattle.emitter.specs.Operations.{operations}
-use Rattle.emitter.proofs.Writes.{appended_same, appended_then}
+use Rattle.emitter.proofs.Writes.{appended_same, appended_then, room_left}
 use Rattle.emitter.proofs.Pushes.{emitted_push, resulting_push}
 use Rattle.emitter.proofs.Tables.{emitted_room, rows_few}
 use Rattle.emitter.proofs.draft.Draft.write_expressions.Goals as goal
@@ -25,13 +25,9 @@ write_expression-made-requires-clause-room c =
     let k = c.loop-e.e-index in
     let items = c.loop-e.invariant.order in
     let within : k < length (order_of t) = omega (arith, c.loop-e-test.true, ap length items) in
-    let next = c.loop-e.invariant.steps.next in
-    let long = c.loop-e.invariant.steps.long in
     let here = ap (λ rs. operations (as_rows rs)) c.rows.ensures in
     let same = ap (λ (es : List ℕ). operations ((style_of t).expression (get_or es k 0))) items in
-    let room = emitted_room (style_of t).expression none_made 0 (order_of t) k within in
-    let first = c.requires.first in
-    omega arith
+    room_left _ _ c.loop-e.invariant.steps c.requires.room (omega (arith, here, same, emitted_room (style_of t).expression none_made 0 (order_of t) k within))
 
 pub loop-e-preserved : goal.loop-e-preserved
 loop-e-preserved c =

@@ -1,20 +1,16 @@
-use Rattle.std.proofs.Common.{◌≡◌, List, length, sym, ap, subst, arith, rules}
+use Rattle.std.proofs.Common.{List, length, sym, ap, subst, arith, rules}
 use Rattle.sheet.specs.declared.operation.Operation.TheVariants.{Add}
 use Rattle.emission.specs.Steps.{Chain, negated}
 use Rattle.emitter.specs.declared.sums.Summand.{Summand}
 use Rattle.emitter.specs.Chained.{Built, operands}
 use Rattle.emitter.proofs.Signs.{links_length, negated_some}
-use Rattle.emitter.proofs.Writes.{chained_next, chained_then}
+use Rattle.emitter.proofs.Writes.{chained_then, room_linked}
 use Rattle.emitter.proofs.draft.Draft.write_negated.Goals as goal
 
 pub link-requires : goal.link-requires
 link-requires c =
     let added = c.link_all-added.ensures (λ _. Add) (λ t o k. search rules) in
-    let next = chained_next added in
-    let long = added.steps.long in
-    let links = links_length (λ _. Add) c.in-Some.rest.now in
-    let whole = ap length c.in-Some.ensures.cases.0 in
-    omega arith
+    room_linked _ 1 added c.requires (omega (arith, links_length (λ _. Add) c.in-Some.rest.now, ap length c.in-Some.ensures.cases.0))
 
 pub returns : goal.returns
 returns c =

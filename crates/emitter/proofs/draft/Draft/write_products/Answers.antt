@@ -1,4 +1,4 @@
-use Rattle.std.proofs.Common.{◌≡◌, ℕ, ◌+◌, ◌<◌, List, [], ◌∷◌, ◌++◌, length, get_or, take, Ok, Err, Result, sym, ap, ◌∙◌, arith}
+use Rattle.std.proofs.Common.{◌≡◌, ℕ, ◌<◌, List, [], ◌∷◌, ◌++◌, length, get_or, take, Ok, Err, Result, sym, ap, ◌∙◌, arith}
 use Rattle.std.proofs.lemmas.List.{length-map, length-take-le, map_more, map_push, take_all}
 use Rattle.sheet.specs.declared.operand.Operand.{Operand}
 use Rattle.cubes.specs.Rows.{as_row, as_rows, no_row}
@@ -8,7 +8,7 @@ use Rattle.emission.specs.Steps.{Signed, chain_end, chain_steps, products, row_c
 use Rattle.emission.proofs.Counting.{products_length, summands_length}
 use Rattle.emitter.specs.declared.sums.Summand.{Summand}
 use Rattle.emitter.specs.Chained.{signed, signed_one}
-use Rattle.emitter.proofs.Writes.{appended_same, appended_then}
+use Rattle.emitter.proofs.Writes.{appended_same, appended_then, room_left}
 use Rattle.emitter.proofs.Pushes.{products_push, summands_push, row_room}
 use Rattle.emitter.proofs.draft.Draft.write_products.Goals as goal
 
@@ -24,11 +24,8 @@ pub write_product-requires : goal.write_product-requires
 write_product-requires c =
     let rows = c.args.rows.now in
     let i = c.loop-row.row-index in
-    let next = c.loop-row.invariant.steps.next in
-    let long = c.loop-row.invariant.steps.long in
     let len = products_length c.args.results.now c.args.self.now.next (as_rows (take i rows)) in
-    let room = row_room rows i no_row c.loop-row-test.true in
-    omega arith
+    room_left _ _ c.loop-row.invariant.steps c.requires.room (omega (arith, len, row_room rows i no_row c.loop-row-test.true))
 
 pub loop-row-preserved : goal.loop-row-preserved
 loop-row-preserved c =

@@ -1,10 +1,10 @@
-use Rattle.std.proofs.Common.{◌≡◌, ◌-◌, ◌+◌, List, length, take, drop, sym, ap, ◌∙◌, subst, arith, rules}
+use Rattle.std.proofs.Common.{◌+◌, length, take, sym, ap, ◌∙◌, subst, arith, rules}
 use Rattle.std.proofs.lemmas.List.{take_rest, length-take-le, length-drop}
 use Rattle.sheet.specs.declared.operation.Operation.TheVariants.{Sub}
 use Rattle.emission.specs.Steps.{Chain}
 use Rattle.emitter.specs.Chained.{Built}
 use Rattle.emitter.proofs.Signs.{by_sign, links_by, links_length, none_chain, negated_length, first_at, first_length}
-use Rattle.emitter.proofs.Writes.{chained_next, chained_same, chained_then}
+use Rattle.emitter.proofs.Writes.{chained_same, chained_then, room_linked}
 use Rattle.emitter.proofs.draft.Draft.write_sum.Goals as goal
 
 pub write_negated-requires : goal.write_negated-requires
@@ -33,15 +33,10 @@ link_all-requires-clause-room c =
     let ts = c.args.terms.now in
     let p = c.in-Some.first in
     let f = first_at ts p (sym c.first_positive.ensures ∙ c.in-Some.is) in
-    let len = first_length ts p f in
     let h = f.within in
-    let part = length-take-le p ts (omega arith) in
     let taken = c.link_all-taken.ensures (λ _. Sub) (λ t o k. search rules) in
-    let next = chained_next taken in
-    let long = taken.steps.long in
-    let links = links_length (λ _. Sub) (take p ts) in
     let rest = ap length (take_rest ts (p + 1)) ∙ length-drop (p + 1) ts in
-    omega arith
+    room_linked _ _ taken c.requires (omega (arith, first_length ts p f, links_length (λ _. Sub) (take p ts), length-take-le p ts (omega arith)))
 
 pub returns : goal.returns
 returns c =
