@@ -18,9 +18,3 @@ loop-l-preserved c =
     let l = c.loop-l.l in
     multiplied_same (multiplied_then (factors f a l) _ c.loop-l.product c.loop-l.invariant c.multiply-product.ensures)
     (ap (λ (o : Operand). factors f a l ++ replicate (a l) o) c.letter_operand.ensures ∙ factors_more f a l) refl refl
-
-pub returns : goal.returns
-returns c =
-    let e : c.loop-l.l ≡ 32 = omega arith in
-    let m = multiplied_same c.loop-l.invariant (ap (factors (letter_operand c.args.results.now) (power c.args.cube)) e) refl refl in
-    record { steps = m.chain.steps; end = c.unwrap_or.ensures ∙ m.chain.end }

@@ -54,13 +54,3 @@ loop-row-preserved c =
           ∙ ap (λ (o : Operand). summands results at done ++ (r.negative, o) ∷ []) (made.end ∙ ap (λ (m : ℕ). chain_end m k) next)
           ∙ sym (summands_push results at done r) ∙ ap (summands results at) (sym more);
     }
-
-pub returns : goal.returns
-returns c =
-    let results = c.args.results.now in
-    let at = c.args.self.now.next in
-    let all = ap as_rows (take_all c.loop-row.row-index c.args.rows.now c.loop-row-test.false) in
-    record {
-      steps = appended_same c.loop-row.invariant.steps (ap (products results at) all);
-      terms = c.loop-row.invariant.terms ∙ ap (summands results at) all;
-    }
