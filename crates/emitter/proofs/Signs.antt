@@ -14,7 +14,7 @@ use Rattle.cubes.specs.declared.row.Sign.TheVariants.{Plus}
 use Rattle.cubes.specs.Rows.{minus}
 use Rattle.emission.specs.Steps.{Chain, Link, Signed, negated, signed_link, sum_behind, sum_chain}
 use Rattle.emitter.specs.declared.sums.Summand.{Summand}
-use Rattle.emitter.specs.Chained.{operands, signed, signed_one}
+use Rattle.emitter.specs.Terms.{links_by, operands, signed, signed_one}
 
 -- what stands past the last term
 abbrev pub no_term : Summand
@@ -45,10 +45,6 @@ sum_below ts (suc i) h below =
     ∙ sum_negative (operands (take i ts)) (signed_one t) rest (not-false (minus t.sign) (below i (omega arith)))
     ∙ ap (λ (os : List Operand). sum_behind os rest) (sym (map_more (λ (s : Summand). s.operand) ts i no_term here))
     ∙ ap (λ (n : ℕ). sum_behind (operands (take n ts)) (signed (drop n ts))) (add-one i)
-
--- one operation with each of the terms, as a chain has it
-abbrev pub links_by : (Summand → Operation) → List Summand → List Link
-links_by of ts = map (λ t. (of t, t.operand)) ts
 
 -- the operation by the sign
 abbrev pub by_sign : Summand → Operation

@@ -1,10 +1,8 @@
 -- Chains of steps that are written behind a draft.
-use Rattle.std.specs.Prelude.{◌≡◌, List, map}
+use Rattle.std.specs.Prelude.{◌≡◌, List}
 use Rattle.sheet.specs.declared.operand.Operand.{Operand}
-use Rattle.cubes.specs.Rows.{minus}
-use Rattle.emission.specs.Steps.{Chain, Link, Signed, end_from, steps_from}
+use Rattle.emission.specs.Steps.{Chain, Link, end_from, steps_from}
 use Rattle.emitter.specs.declared.draft.Draft.{Draft}
-use Rattle.emitter.specs.declared.sums.Summand.{Summand}
 use Rattle.emitter.specs.Appended.{Appended}
 
 -- the links `ks` on x are written; `result` is what they come to
@@ -15,13 +13,3 @@ pub record Chained (old : Draft) (x : Operand) (ks : List Link) (result : Operan
 -- a chain is written
 abbrev pub Built : Draft → Chain → Operand → Draft → Type 0
 Built old k result new = Chained old k.start k.links result new
-
--- terms, as the definition of the steps has them
-abbrev pub signed_one : Summand → Signed
-signed_one t = (minus t.sign, t.operand)
-
-abbrev pub signed : List Summand → List Signed
-signed ts = map signed_one ts
-
-abbrev pub operands : List Summand → List Operand
-operands ts = map (λ t. t.operand) ts

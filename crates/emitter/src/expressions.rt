@@ -4,8 +4,8 @@ ghost use Rattle.cubes.specs.Rows.{as_rows};
 ghost use Rattle.few.specs.Listed.{listed};
 ghost use Rattle.emission.specs.Steps.{products, summands, expression_steps, expression_result};
 ghost use Rattle.emitter.specs.Appended.{Appended, HasRoom};
-ghost use Rattle.emitter.specs.Chained.{signed};
 ghost use Rattle.emitter.specs.Operations.{operations};
+ghost use Rattle.emitter.specs.Terms.{signed};
 
 use crate::draft::Draft;
 use crate::sums::Summand;

@@ -1,11 +1,12 @@
-ghost use Rattle.std.specs.Prelude.{◌≡◌, ◌+◌, map, not, length, position};
+ghost use Rattle.std.specs.Prelude.{◌≡◌, ◌+◌, not, length, position};
 ghost use Rattle.std.specs.Fn.{FnReturnsAt};
 ghost use Rattle.sheet.specs.declared.operation.Operation.{Operation};
 ghost use Rattle.cubes.specs.Rows.{minus};
 ghost use Rattle.emission.specs.Steps.{negated, signed_link, sum_chain};
 ghost use Rattle.emitter.specs.declared.sums.Summand.{Summand};
 ghost use Rattle.emitter.specs.Appended.{HasRoom};
-ghost use Rattle.emitter.specs.Chained.{Built, Chained, operands, signed, signed_one};
+ghost use Rattle.emitter.specs.Chained.{Built, Chained};
+ghost use Rattle.emitter.specs.Terms.{Chooses, links_by, operands, signed, signed_one};
 
 use crate::draft::Draft;
 use cubes::Sign;
@@ -56,7 +57,7 @@ impl Draft {
     ) -> Operand
         requires callable { F.IsAlwaysCallable operation }
         requires room { HasRoom self.old (length terms.now) }
-        ensures { (of : Summand → Operation) → ((t : Summand) (o : Operation) → FnReturnsAt F.Fn operation t o → o ≡ of t) → Chained self.old start (map (λ t. (of t, t.operand)) terms.now) result self.new }
+        ensures { (of : Summand → Operation) → Chooses (FnReturnsAt F.Fn operation) of → Chained self.old start (links_by of terms.now) result self.new }
     {
         let mut made = start;
         for term in terms {

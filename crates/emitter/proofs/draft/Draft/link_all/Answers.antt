@@ -4,12 +4,13 @@ use Rattle.std.proofs.lemmas.List.{map_more, take_all}
 use Rattle.sheet.specs.declared.operation.Operation.{Operation}
 use Rattle.emission.specs.Steps.{Link}
 use Rattle.emitter.specs.declared.sums.Summand.{Summand}
+use Rattle.emitter.specs.Terms.{links_by}
 use Rattle.emitter.proofs.Writes.{chained_same, chained_then, room_linked}
 use Rattle.emitter.proofs.draft.Draft.link_all.Goals as goal
 
 -- the link of one term more
 link_more : (of : Summand → Operation) (ts : List Summand) (i : ℕ) (d : Summand) (o : Operation) → i < length ts → o ≡ of (get_or ts i d)
-    → map {B = Link} (λ t. (of t, t.operand)) (take i ts) ++ (o, (get_or ts i d).operand) ∷ [] ≡ map (λ t. (of t, t.operand)) (take (i + 1) ts)
+    → links_by of (take i ts) ++ (o, (get_or ts i d).operand) ∷ [] ≡ links_by of (take (i + 1) ts)
 link_more of ts i d o h e =
     let link : Summand → Link = λ t. (of t, t.operand) in
     ap (λ (p : Operation). map link (take i ts) ++ (p, (get_or ts i d).operand) ∷ []) e ∙ sym (map_more link ts i d h)
@@ -24,4 +25,4 @@ loop-term-preserved g c =
     }
 
 pub returns : goal.returns
-returns g c of same = chained_same (c.loop-term.invariant.chain of same) (ap (map (λ (t : Summand). (of t, t.operand))) (take_all c.loop-term.term-index c.args.terms.now c.loop-term-test.false))
+returns g c of same = chained_same (c.loop-term.invariant.chain of same) (ap (links_by of) (take_all c.loop-term.term-index c.args.terms.now c.loop-term-test.false))

@@ -2,7 +2,8 @@ use Rattle.std.proofs.Common.{List, length, ap, ◌∙◌, subst, arith}
 use Rattle.cubes.specs.Rows.{as_rows}
 use Rattle.emission.specs.Steps.{Signed, sum_chain}
 use Rattle.emission.proofs.Counting.{products_length, sum_length}
-use Rattle.emitter.specs.Chained.{Built, signed}
+use Rattle.emitter.specs.Chained.{Built}
+use Rattle.emitter.specs.Terms.{signed}
 use Rattle.emitter.proofs.Pushes.{expressed}
 use Rattle.emitter.proofs.Writes.{room_left}
 use Rattle.emitter.proofs.draft.Draft.write_expression.Goals as goal

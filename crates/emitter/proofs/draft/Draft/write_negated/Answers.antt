@@ -2,7 +2,8 @@ use Rattle.std.proofs.Common.{List, length, sym, ap, subst, arith, rules}
 use Rattle.sheet.specs.declared.operation.Operation.TheVariants.{Add}
 use Rattle.emission.specs.Steps.{Chain, negated}
 use Rattle.emitter.specs.declared.sums.Summand.{Summand}
-use Rattle.emitter.specs.Chained.{Built, operands}
+use Rattle.emitter.specs.Chained.{Built}
+use Rattle.emitter.specs.Terms.{operands}
 use Rattle.emitter.proofs.Signs.{links_length, negated_some}
 use Rattle.emitter.proofs.Writes.{chained_then, room_linked}
 use Rattle.emitter.proofs.draft.Draft.write_negated.Goals as goal

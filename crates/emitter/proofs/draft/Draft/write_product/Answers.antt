@@ -1,4 +1,4 @@
-use Rattle.std.proofs.Common.{◌≡◌, ◌++◌, replicate, refl, ap, ◌∙◌, arith}
+use Rattle.std.proofs.Common.{◌++◌, replicate, refl, ap, ◌∙◌}
 use Rattle.sheet.specs.declared.operand.Operand.{Operand}
 use Rattle.cubes.specs.Powers.{power}
 use Rattle.emission.specs.Steps.{letter_operand}

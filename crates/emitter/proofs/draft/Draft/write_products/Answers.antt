@@ -1,5 +1,5 @@
 use Rattle.std.proofs.Common.{◌≡◌, ℕ, ◌<◌, List, [], ◌∷◌, ◌++◌, length, get_or, take, Ok, Err, Result, sym, ap, ◌∙◌, arith}
-use Rattle.std.proofs.lemmas.List.{length-map, length-take-le, map_more, map_push, take_all}
+use Rattle.std.proofs.lemmas.List.{length-map, length-take-le, map_more, map_push}
 use Rattle.sheet.specs.declared.operand.Operand.{Operand}
 use Rattle.cubes.specs.Rows.{as_row, as_rows, no_row}
 use Rattle.few.specs.declared.few.Few.{Few}
@@ -7,7 +7,7 @@ use Rattle.few.specs.Listed.{listed}
 use Rattle.emission.specs.Steps.{Signed, chain_end, chain_steps, products, row_chain, summands}
 use Rattle.emission.proofs.Counting.{products_length, summands_length}
 use Rattle.emitter.specs.declared.sums.Summand.{Summand}
-use Rattle.emitter.specs.Chained.{signed, signed_one}
+use Rattle.emitter.specs.Terms.{signed, signed_one}
 use Rattle.emitter.proofs.Writes.{appended_same, appended_then, room_left}
 use Rattle.emitter.proofs.Pushes.{products_push, summands_push, row_room}
 use Rattle.emitter.proofs.draft.Draft.write_products.Goals as goal

@@ -3,7 +3,7 @@ use Rattle.cubes.specs.Rows.{as_rows}
 use Rattle.few.specs.Listed.{listed}
 use Rattle.emission.specs.Steps.{products, summands}
 use Rattle.emitter.specs.Appended.{Appended}
-use Rattle.emitter.specs.Chained.{signed}
+use Rattle.emitter.specs.Terms.{signed}
 use Rattle.emitter.proofs.draft.Draft.write_products.Given as goal
 
 abbrev pub invariant-loop-row : goal.invariant-loop-row

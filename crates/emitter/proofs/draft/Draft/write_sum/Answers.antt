@@ -3,7 +3,8 @@ use Rattle.std.proofs.lemmas.List.{take_rest, length-take-le, length-drop}
 use Rattle.sheet.specs.declared.operation.Operation.TheVariants.{Sub}
 use Rattle.emission.specs.Steps.{Chain}
 use Rattle.emitter.specs.Chained.{Built}
-use Rattle.emitter.proofs.Signs.{by_sign, links_by, links_length, none_chain, negated_length, first_at, first_length}
+use Rattle.emitter.specs.Terms.{links_by}
+use Rattle.emitter.proofs.Signs.{by_sign, links_length, none_chain, negated_length, first_at, first_length}
 use Rattle.emitter.proofs.Writes.{chained_same, chained_then, room_linked}
 use Rattle.emitter.proofs.draft.Draft.write_sum.Goals as goal
 
