@@ -4,7 +4,8 @@ ghost use Rattle.emitter.specs.Chained.{Chained};
 
 use sheet::{Operand, Operation, Step};
 
-// A buffer of steps that is written from the front, and the number of the next step.
+// A buffer of steps that is written from the front, and the number of the next step. The number stands beside the buffer, since
+// that keeps its length: the places from `next` on stay as they were handed in.
 #[derive(Drop)]
 pub(crate) struct Draft {
     pub(crate) steps: Vec<Step>,

@@ -33,6 +33,7 @@ impl Draft {
         ensures { Multiplied self.old (option_to_list start ++ replicate times factor) result self.new }
     {
         let mut product = start;
+        // nothing is indexed: a chain's closure would change the draft, and a proof knows nothing of what it changes
         for _j in 0..times {
             product = match product {
                 None => Some(factor),

@@ -19,6 +19,7 @@ pub(crate) struct Summand {
     pub(crate) operand: Operand,
 }
 
+// by hand, since neither field's type has a default
 impl Default for Summand {
     fn default() -> Summand {
         Summand {

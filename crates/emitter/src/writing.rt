@@ -31,7 +31,8 @@ impl Draft {
     }
 }
 
-// The steps of a table, at the front of the buffer that was handed in; their number, and the outputs of the formulas.
+// The steps of a table, at the front of the buffer that was handed in; their number, and the outputs of the formulas. The number
+// stands beside the buffer, since that keeps its length: the places behind the steps are as they were.
 #[derive(Drop)]
 pub struct Written {
     pub steps: Vec<Step>,
