@@ -9,6 +9,7 @@ use cubes::{Cube, Row};
 use std::alloc::{AllocError, Global};
 
 // The columns of a kernel that the binary number `set` names: the first counts 1, the second 2, the third 4.
+// They lie in a Vec, since a Few begins with a default of its items, and a row has none.
 pub(crate) fn named_columns(
     rows: &[Row],
     cokernel: Cube,

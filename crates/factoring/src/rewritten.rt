@@ -82,6 +82,7 @@ pub(crate) fn rewrite_all(
     ensures { IfOk result (λ o. elim o [ Some x ↦ AllAnew (minus part.sign) (power part.cube) (as_takens taken.now) table.now x | None ↦ OneUnmade (minus part.sign) (power part.cube) (as_takens taken.now) table.now ]) }
 {
     let mut expressions = table.expressions;
+    // an expression is named by its number, which its kernels bear
     for e in 0..table.standing() {
         let Some(expression) = rewrite(table, e, taken, part, heap)? else {
             return Ok(None);

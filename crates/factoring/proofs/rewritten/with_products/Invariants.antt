@@ -5,4 +5,4 @@ use Rattle.factoring.proofs.Rests.{Appending}
 use Rattle.factoring.proofs.rewritten.with_products.Given as goal
 
 abbrev pub invariant-loop-t : goal.invariant-loop-t
-invariant-loop-t l = Appending (minus l.sign) (power l.letter) l.e l.taken (as_rows (vec_items l.initial.rows)) l.t-index (vec_items l.rows)
+invariant-loop-t l = Appending (minus l.fn.part.sign) (power l.fn.part.cube) l.e l.taken (as_rows (vec_items l.initial.rows)) l.t-index (vec_items l.rows)
