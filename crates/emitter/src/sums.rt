@@ -13,20 +13,10 @@ use cubes::Sign;
 use sheet::{Operand, Operation};
 
 // A row's sign, and the operand of its product.
-#[derive(Clone, Copy)]
+#[derive(Clone, Copy, Default)]
 pub(crate) struct Summand {
     pub(crate) sign: Sign,
     pub(crate) operand: Operand,
-}
-
-// by hand, since neither field's type has a default
-impl Default for Summand {
-    fn default() -> Summand {
-        Summand {
-            sign: Sign::Plus,
-            operand: Operand::Zero,
-        }
-    }
 }
 
 impl Summand {

@@ -4,7 +4,7 @@
 use anyhow::anyhow;
 use ring::{Pair, Ring, Word};
 use runner::{Bench, run};
-use sheet::{Operand, Operation, Sheet, Step};
+use sheet::{Sheet, Step};
 use sheet_file::read;
 use std::alloc::{AllocError, Global};
 use std::{env, fs};
@@ -82,12 +82,7 @@ fn repeat<R: Sample>(heap: Global, sheet: &Sheet, repeats: u32) -> Result<u32, A
 }
 
 fn read_sheet(heap: Global, file: &[u8]) -> anyhow::Result<Sheet> {
-    let filler = Step {
-        operation: Operation::Add,
-        left: Operand::Zero,
-        right: Operand::Zero,
-    };
-    let buffer = vec![in heap; filler; 2000]?;
+    let buffer = vec![in heap; Step::default(); 2000]?;
     read(file, buffer).map_err(|_| anyhow!("the file is refused"))
 }
 

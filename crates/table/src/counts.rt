@@ -8,11 +8,7 @@ impl Table {
     pub fn counts(&self) -> Counts
         ensures { CountedOver self.now result }
     {
-        let mut sum = Counts {
-            multiplications: 0,
-            additions: 0,
-            negations: 0,
-        };
+        let mut sum = Counts::default();
         for x in &self.expressions[..self.standing()] {
             sum.multiplications += x.multiplications() as usize;
             sum.additions += x.additions() as usize;

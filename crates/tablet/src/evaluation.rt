@@ -5,7 +5,7 @@ use crate::error::EvaluationError;
 use crate::telling::report;
 use ring::Ring;
 use runner::{Bench, run};
-use sheet::{Operand, Operation, Sheet, Step};
+use sheet::{Sheet, Step};
 use sheet_file::read;
 use spelling::Spelled;
 use std::alloc::Global;
@@ -33,12 +33,7 @@ pub fn evaluate<R: Spelled>(
 ) -> Result<String, EvaluationError>
     ensures { Evaluated R.Ring.ring R.Ring.meaning R.Spelled.shows file.now measures.now result }
 {
-    let filler = Step {
-        operation: Operation::Add,
-        left: Operand::Zero,
-        right: Operand::Zero,
-    };
-    let buffer = vec![in heap; filler; 2000]?;
+    let buffer = vec![in heap; Step::default(); 2000]?;
     let sheet = read(file, buffer)?;
     let values = run_sheet(heap, &sheet, measures)?;
     Ok(report(heap, &sheet, &values)?)
