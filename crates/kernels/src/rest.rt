@@ -28,9 +28,11 @@ impl Rest {
     pub(crate) fn quotient(&self, c: Cube) -> Rest
         ensures { Quotient self.now (power c) result }
     {
-        let mut slots = self.slots;
-        for slot in &mut slots {
-            *slot = slot.and_then(|cube| cube.divide(c));
+        let mut slots = [None; ROWS];
+        for (k, slot) in self.slots.iter().enumerate() {
+            if let Some(cube) = slot {
+                slots[k] = cube.divide(c);
+            }
         }
         Rest { slots }
     }
