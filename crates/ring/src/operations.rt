@@ -37,7 +37,8 @@ pub fn operations_at<R: Ring>(x: R, y: R, n: u16) -> Operations<R>
 }
 
 // The generic calls at words, in plain numbers: this fixes what a word means, and in which ring.
-// It, `wheel_operations` and `pair_operations` are three functions, since each names its modulus.
+// Three such functions pin each a kind to plain numbers. `operations_at` is the generic one: a contract at
+// every kind can name no modulus.
 pub fn word_operations(x: Word, y: Word, n: u16) -> Operations<Word>
     ensures plain { Modular (2 ^ 32) x.value y.value n result.zero.value result.one.value result.numeral.value result.sum.value result.product.value result.opposite.value }
     ensures numeral { result.numeral.value ≡ n }

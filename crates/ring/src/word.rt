@@ -5,8 +5,8 @@ ghost use Rattle.ring.specs.Kinds.{word_ring, word_meaning};
 use crate::Ring;
 use std::fmt;
 
-// A whole number modulo 2^32. `Word` and `Wheel` stay two types: a word wraps in the machine's 32
-// bits, where one type with the modulus as a parameter would divide, in 64.
+// A whole number modulo 2^32. `Word` and `Wheel` stay two types: any `u32` is a word, and anyone may write
+// its field; a wheel is a `u8` that is always below 97. One type over the modulus would ask a proof of every word.
 #[derive(Clone, Copy, PartialEq, Eq, Debug)]
 pub struct Word {
     pub value: u32,

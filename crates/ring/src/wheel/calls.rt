@@ -24,7 +24,7 @@ impl fmt::Display for Wheel {
 }
 
 impl Wheel {
-    // The wheel of any number: what it leaves modulo 97. It loses what 97 divides, so it is no `From`.
+    // The wheel of any number: what it leaves modulo 97. Many numbers make one wheel, so it is no `From`.
     pub fn of(n: u32) -> Wheel
         ensures { result.value ≡ n % 97 }
     {
