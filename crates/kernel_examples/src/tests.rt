@@ -1,4 +1,4 @@
-use cubes::{Cube, Expression, LETTERS, ROWS, Refused, Row, Sign};
+use cubes::{Cube, Expression, ROWS, Row, Sign};
 use kernels::{Kernel, KernelRefusal, kernels_of, kernels_of_all};
 use std::test::Fail;
 
@@ -17,8 +17,8 @@ const FOUR: usize = 8;
 fn cube(powers: &[(usize, u8)]) -> Cube {
     let mut c = Cube::one();
     for (letter, power) in powers {
-        if *letter < LETTERS {
-            c.powers[*letter] = *power;
+        if let Some(p) = c.powers.get_mut(*letter) {
+            *p = *power;
         }
     }
     c
@@ -38,20 +38,12 @@ fn minus(powers: &[(usize, u8)]) -> Row {
     }
 }
 
-fn sum(rows: &[Row]) -> Result<Expression, Refused> {
-    let mut e = Expression::empty();
-    for row in rows {
-        e.push(*row)?;
-    }
-    Ok(e)
-}
-
 // a kernel as the tests expect it; the rows past those written are not used
 fn kernel(expression: usize, cokernel: &[(usize, u8)], used: &[usize]) -> Kernel {
     let mut rows = [false; ROWS];
     for k in used {
-        if *k < ROWS {
-            rows[*k] = true;
+        if let Some(row) = rows.get_mut(*k) {
+            *row = true;
         }
     }
     Kernel {
@@ -69,7 +61,7 @@ fn mark() -> Kernel {
 // x - b x^3 + c x^5 - d x^7: x divides every row, so the whole expression is no kernel
 #[test]
 fn powers_of_one_letter(rt: HostRuntime) -> Result<(), Fail> {
-    let e = sum(&[
+    let e = Expression::of(&[
         plus(&[(X, 1)]),
         minus(&[(X, 3), (Y, 1)]),
         plus(&[(X, 5), (Z, 1)]),
@@ -91,13 +83,13 @@ fn powers_of_one_letter(rt: HostRuntime) -> Result<(), Fail> {
 #[test]
 fn three_expressions(rt: HostRuntime) -> Result<(), Fail> {
     let expressions = [
-        sum(&[plus(&[(X, 3), (Y, 1)]), plus(&[(X, 2), (Y, 2), (Z, 1)])])?,
-        sum(&[
+        Expression::of(&[plus(&[(X, 3), (Y, 1)]), plus(&[(X, 2), (Y, 2), (Z, 1)])])?,
+        Expression::of(&[
             plus(&[(FOUR, 1), (X, 1)]),
             plus(&[(FOUR, 1), (Y, 1), (Z, 1)]),
             minus(&[(X, 1), (Y, 1), (Z, 1)]),
         ])?,
-        sum(&[plus(&[(FOUR, 1), (X, 1), (Y, 1)]), minus(&[(X, 2), (Y, 1)])])?,
+        Expression::of(&[plus(&[(FOUR, 1), (X, 1), (Y, 1)]), minus(&[(X, 2), (Y, 1)])])?,
     ];
     let mut out = [mark(); 7];
     assert_eq!(rt; kernels_of_all(&expressions, &mut out)?, 6);
@@ -120,10 +112,10 @@ fn few_rows(rt: HostRuntime) -> Result<(), Fail> {
     let ab = plus(&[(X, 1), (Y, 1)]);
     let ac = plus(&[(X, 1), (Z, 1)]);
     let mut out = [mark(); 2];
-    assert_eq!(rt; kernels_of(0, &sum(&[])?, &mut out)?, 0);
-    assert_eq!(rt; kernels_of(0, &sum(&[ab])?, &mut out)?, 0);
+    assert_eq!(rt; kernels_of(0, &Expression::of(&[])?, &mut out)?, 0);
+    assert_eq!(rt; kernels_of(0, &Expression::of(&[ab])?, &mut out)?, 0);
     assert!(rt; out == [mark(), mark()]);
-    assert_eq!(rt; kernels_of(0, &sum(&[ab, ac])?, &mut out)?, 1);
+    assert_eq!(rt; kernels_of(0, &Expression::of(&[ab, ac])?, &mut out)?, 1);
     assert!(rt; out == [kernel(0, &[(X, 1)], &[0, 1]), mark()]);
     Ok(())
 }
@@ -131,7 +123,7 @@ fn few_rows(rt: HostRuntime) -> Result<(), Fail> {
 // a b + a c + b c has four kernels: a list of three places is left as it was
 #[test]
 fn short_list(rt: HostRuntime) -> Result<(), Fail> {
-    let e = sum(&[
+    let e = Expression::of(&[
         plus(&[(X, 1), (Y, 1)]),
         plus(&[(X, 1), (Z, 1)]),
         plus(&[(Y, 1), (Z, 1)]),

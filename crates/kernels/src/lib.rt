@@ -3,6 +3,7 @@
 
 mod kernel;
 mod list;
+mod node;
 mod rest;
 mod search;
 

@@ -4,32 +4,26 @@ ghost use Rattle.kernels.specs.Joins.{Joined, JoinedFrom, OneJoinedList};
 ghost use Rattle.kernels.specs.Kernels.{KernelList, OneList};
 ghost use Rattle.kernels.specs.Lists.{Written, Filled, TooMany};
 
-use crate::search::{begin, search};
+use crate::node::Node;
+use crate::search::Listing;
 use crate::{Kernel, KernelRefusal};
 use cubes::Expression;
 use std::slice;
 
-// Writes the kernels of an expression from the place `at` on, as far as there is room, and gives
-// the place behind the last one.
-fn run(number: usize, e: &Expression, out: &mut [Kernel], at: usize) -> usize
-    ensures { Written (KernelList number (rows_of e.now)) at out.old out.new result }
-{
-    match begin(e) {
-        Some(child) => search(number, &child.rest, child.cube, 0, out, at),
-        None => at,
-    }
-}
-
-// The same for several expressions, numbered from `first`, one list behind the other, from the first place on.
+// Lists the kernels of several expressions, numbered from `first`, one list behind the other, from
+// the first place on and as far as there is room, and says how many there are.
 fn run_all(first: usize, expressions: &[Expression], out: &mut [Kernel]) -> usize
     requires { first + length expressions.now ≤ 2 ^ 64 }
     ensures { Written (JoinedFrom first expressions.now) 0 out.old out.new result }
 {
-    let mut n = 0;
+    let mut listing = Listing { out, count: 0 };
     for (k, e) in expressions.iter().enumerate() {
-        n = run(first + k, e, out, n);
+        let Some(node) = Node::first(e) else {
+            continue;
+        };
+        listing.search(first + k, &node, 0);
     }
-    n
+    listing.count
 }
 
 // Lists the kernels of several expressions, numbered from `first`. The first run counts, the second writes.
