@@ -4,6 +4,7 @@ ghost use Rattle.kernels.specs.Kernels.{refusal_number};
 use cubes::{Cube, ROWS};
 
 // A kernel: the number of its expression, its co-kernel, and which rows of the expression this divides.
+// Exactly the rows used are asked for, so each row has its own answer, and no list of them can name one twice.
 #[derive(Clone, Copy, PartialEq, Eq, Debug)]
 pub struct Kernel {
     pub expression: usize,

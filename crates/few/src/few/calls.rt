@@ -46,6 +46,7 @@ impl<T: Copy, const N: usize> Few<T, N> {
     }
 
     // Puts an item in the place of another; gives it back where there is none.
+    // In place of a `&mut` to the items: Rattle proves no loan out of an array of a type parameter.
     pub fn set(&mut self, place: usize, item: T) -> Result<(), T>
         ensures { elim result [ Ok _ ↦ (place < length (listed self.old)) × (listed self.new ≡ slice_set (listed self.old) place item) | Err x ↦ (x ≡ item) × (length (listed self.old) ≤ place) × (self.new ≡ self.old) ] }
     {
