@@ -31,7 +31,7 @@ use Rattle.rules.specs.Settling.{LeavesNothing}
 use Rattle.rules.proofs.Courses.{CoursesOnward, course_left, course_onward, presses_then, stays}
 use Rattle.rules.proofs.Follows.{factor_onward, share_onward}
 use Rattle.playing.specs.declared.outcome.Outcome.{Outcome}
-use Rattle.playing.specs.declared.outcome.Outcome.TheVariants.{Settle as SettleOut, Emitted}
+use Rattle.playing.specs.declared.outcome.Outcome.TheVariants.{Settle as SettleOut, Emit as EmitOut}
 use Rattle.playing.specs.declared.press.Press.{Press}
 use Rattle.playing.specs.declared.press.Press.TheVariants.{Settle, Share}
 use Rattle.playing.specs.Rules.{Rule, by_emit, by_factor, by_kernels, by_refusal, by_settle, by_share}
@@ -110,7 +110,7 @@ module _ {S R : Type 0} (c : CommRing S) (meaning : R → S) (measures : List R)
         }
 
   -- what an emitted sheet's rule says
-  emit_rule : {P : Type 0} {p : Press} {o : Outcome R} {t t' : Table} (sheet : Sheet) (values : Vec R Global) → Rule c meaning measures p o t t' → o ≡ Emitted sheet values
+  emit_rule : {P : Type 0} {p : Press} {o : Outcome R} {t t' : Table} (sheet : Sheet) (values : Vec R Global) → Rule c meaning measures p o t t' → o ≡ EmitOut (Ok (sheet, values))
       → ((buffer : List Step) → EmitMade t buffer sheet → Worth c meaning sheet measures (vec_items values) → P) → P
   emit_rule sheet values (by_kernels l e h) q f = absurd (cc)
   emit_rule sheet values (by_factor l e h) q f = absurd (cc)

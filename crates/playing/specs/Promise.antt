@@ -17,7 +17,7 @@ use Rattle.rules.specs.declared.answers.SettleAnswer.{SettleAnswer}
 use Rattle.rules.specs.declared.refusals.SettleEnd.TheVariants.{NothingLeft}
 use Rattle.rules.specs.Settling.{LeavesNothing}
 use Rattle.playing.specs.declared.outcome.Outcome.{Outcome}
-use Rattle.playing.specs.declared.outcome.Outcome.TheVariants.{Settle as SettleOut, Emitted}
+use Rattle.playing.specs.declared.outcome.Outcome.TheVariants.{Settle as SettleOut, Emit as EmitOut}
 use Rattle.playing.specs.declared.press.Press.{Press}
 use Rattle.playing.specs.declared.press.Press.TheVariants.{Settle}
 use Rattle.playing.specs.Rules.{Rule}
@@ -52,9 +52,9 @@ module _ {S R : Type 0} (c : CommRing S) (meaning : R → S) (measures : List R)
   -- The promise about a list of offered terms, a list of presses, and all that was answered.
   pub record Promise (offered : List Term) (presses : List Press) (outcomes : List (Outcome R)) : Type 0 where
     pub played : Played (accepted offered) presses outcomes
-    pub values : (i : ℕ) (o : Outcome R) (sheet : Sheet) (values : Vec R Global) → i < length outcomes → slice_index_or outcomes i o ≡ Emitted sheet values
+    pub values : (i : ℕ) (o : Outcome R) (sheet : Sheet) (values : Vec R Global) → i < length outcomes → slice_index_or outcomes i o ≡ EmitOut (Ok (sheet, values))
         → ValuesKept c meaning measures (accepted offered) values
-    pub counts : (i : ℕ) (o : Outcome R) (sheet : Sheet) (values : Vec R Global) → i < length outcomes → slice_index_or outcomes i o ≡ Emitted sheet values
+    pub counts : (i : ℕ) (o : Outcome R) (sheet : Sheet) (values : Vec R Global) → i < length outcomes → slice_index_or outcomes i o ≡ EmitOut (Ok (sheet, values))
         → CountsKept (accepted offered) sheet
     pub nothing_left : (i : ℕ) (p : Press) (o : Outcome R) (w places : ℕ) (list : Vec Kernel Global) (a : SettleAnswer) → i < length presses
         → slice_index_or presses i p ≡ Settle w places → slice_index_or outcomes i o ≡ SettleOut list (Ok a) → a.end ≡ NothingLeft

@@ -1,5 +1,5 @@
 -- One press by the rules: from a table to the outcome and the table behind it.
-use Rattle.std.specs.Prelude.{◌≡◌, ℕ, List, length, vec_items, Result, Vec}
+use Rattle.std.specs.Prelude.{◌≡◌, ℕ, List, length, Ok, Err, vec_items, Result, Vec}
 use Rattle.std.specs.declared.alloc.Global.{Global}
 use Rattle.ring.specs.Ring.{CommRing}
 use Rattle.sheet.specs.declared.sheet.Sheet.{Sheet}
@@ -16,8 +16,9 @@ use Rattle.rules.specs.declared.answers.ShareAnswer.{ShareAnswer}
 use Rattle.rules.specs.declared.refusals.FactorRefusal.{FactorRefusal}
 use Rattle.rules.specs.declared.refusals.SettleRefusal.{SettleRefusal}
 use Rattle.rules.specs.declared.refusals.ShareRefusal.{ShareRefusal}
+use Rattle.rules.specs.declared.refusals.EmitRefusal.TheVariants.{ShortBuffer}
 use Rattle.playing.specs.declared.outcome.Outcome.{Outcome}
-use Rattle.playing.specs.declared.outcome.Outcome.TheVariants.{Kernels as KernelsOut, Factor as FactorOut, Share as ShareOut, Settle as SettleOut, Emitted, NotEmitted}
+use Rattle.playing.specs.declared.outcome.Outcome.TheVariants.{Kernels as KernelsOut, Factor as FactorOut, Share as ShareOut, Settle as SettleOut, Emit as EmitOut}
 use Rattle.playing.specs.declared.press.Press.{Press}
 use Rattle.playing.specs.declared.press.Press.TheVariants.{Kernels, Factor, Share, Settle, Emit}
 
@@ -32,5 +33,5 @@ module _ {S R : Type 0} (c : CommRing S) (meaning : R → S) (measures : List R)
     by_settle : {t t' : Table} {w places : ℕ} {list : Vec Kernel Global} {answer : Result SettleAnswer SettleRefusal} (l : List Kernel) → length l ≡ places
         → Settles w t t' l (vec_items list) answer → Rule (Settle w places) (SettleOut list answer) t t'
     by_emit : {t : Table} {places : ℕ} {sheet : Sheet} {values : Vec R Global} (buffer : List Step) → length buffer ≡ places → EmitMade t buffer sheet
-        → Worth c meaning sheet measures (vec_items values) → Rule (Emit places) (Emitted sheet values) t t
-    by_refusal : {t : Table} {places : ℕ} → EmitShort t places → Rule (Emit places) NotEmitted t t
+        → Worth c meaning sheet measures (vec_items values) → Rule (Emit places) (EmitOut (Ok (sheet, values))) t t
+    by_refusal : {t : Table} {places : ℕ} → EmitShort t places → Rule (Emit places) (EmitOut (Err ShortBuffer)) t t

@@ -1,8 +1,10 @@
 use kernels::{Kernel, KernelRefusal};
-use rules::{FactorAnswer, FactorRefusal, SettleAnswer, SettleRefusal, ShareAnswer, ShareRefusal};
+use rules::{
+    EmitRefusal, FactorAnswer, FactorRefusal, SettleAnswer, SettleRefusal, ShareAnswer, ShareRefusal,
+};
 use sheet::Sheet;
 
-// What a press answered: with the list as it left it, or with the sheet and what its run put into the sixteen output places.
+// What a press answered, with the list as it left it where it takes one.
 #[derive(Drop)]
 pub enum Outcome<R> {
     Kernels {
@@ -20,10 +22,8 @@ pub enum Outcome<R> {
         list: Vec<Kernel>,
         answer: Result<SettleAnswer, SettleRefusal>,
     },
-    Emitted {
-        sheet: Sheet,
-        values: Vec<R>,
+    // the sheet, and what its run put into the places
+    Emit {
+        answer: Result<(Sheet, Vec<R>), EmitRefusal>,
     },
-    // the step buffer was shorter than the sheet
-    NotEmitted,
 }
