@@ -1,4 +1,4 @@
-use Rattle.std.proofs.Common.{◌≡◌, ℕ, ◌+◌, List, sym, refl, ap, ◌∙◌, ap₂, arith}
+use Rattle.std.proofs.Common.{◌≡◌, ℕ, ◌+◌, List, sym, ap, ◌∙◌, ap₂, arith}
 use Rattle.algebra.specs.Counts.{additions, multiplications, negations}
 use Rattle.algebra.specs.Sums.{counting, up_to}
 use Rattle.cubes.specs.Rows.{as_rows}
@@ -9,7 +9,9 @@ use Rattle.table.proofs.table.Table.counts.Goals as goal
 
 pub loop-x-init : goal.loop-x-init
 unfolding up_to
-loop-x-init c = (record { mul = refl; add = refl; neg = refl }, omega arith, omega arith, omega arith)
+loop-x-init c =
+    let d = c.default-sum.ensures in
+    (record { mul = d.0; add = d.1.0; neg = d.1.1 }, omega (arith, d.0), omega (arith, d.1.0), omega (arith, d.1.1))
 
 pub loop-x-preserved : goal.loop-x-preserved
 loop-x-preserved c =
