@@ -1,11 +1,8 @@
 use Rattle.std.proofs.Common.{refl}
 use Rattle.cubes.specs.Powers.{power}
 use Rattle.cubes.proofs.Made.{few_rows}
-use Rattle.kernels.proofs.Beginnings.{bare, begins}
+use Rattle.kernels.proofs.Beginnings.{begins}
 use Rattle.kernels.proofs.node.Node.first.Goals as goal
-
-pub returns-then-not-has_pair : goal.returns-then-not-has_pair
-returns-then-not-has_pair c = bare _ (few_rows c.args.e.now) _ c.whole-q.ensures (c.if-not-has_pair.ensures.no refl)
 
 pub returns : goal.returns
 returns c =

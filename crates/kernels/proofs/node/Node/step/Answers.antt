@@ -1,12 +1,7 @@
 use Rattle.std.proofs.Common.{refl}
 use Rattle.cubes.specs.Powers.{power}
-use Rattle.kernels.proofs.Letters.{barren_lone, barren_before, fits_common, leads}
+use Rattle.kernels.proofs.Letters.{barren_before, fits_common, leads}
 use Rattle.kernels.proofs.node.Node.step.Goals as goal
-
-pub returns-then-not-has_pair : goal.returns-then-not-has_pair
-returns-then-not-has_pair c =
-    barren_lone _ (power c.args.self.now.cube) _ c.requires.letter (power c.in_ok-x.x) c.in_ok-x.ensures.1
-    _ c.quotient-by_letter.ensures (c.if-not-has_pair.ensures.no refl)
 
 pub returns-then-has_before : goal.returns-then-has_before
 returns-then-has_before c =
