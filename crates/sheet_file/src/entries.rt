@@ -13,13 +13,8 @@ impl Layout {
     fn operand(self, number: u16, before: usize) -> Option<Operand>
         ensures { MatchOption result (NoOperand self.held before number) (λ o. (legal_operand self.held before o ≡ true) × (operand_number o ≡ number)) }
     {
-        let Ok(operand) = Operand::try_from(number) else {
-            return None;
-        };
-        if !operand.is_legal(self.scope(before)) {
-            return None;
-        }
-        Some(operand)
+        let operand = Operand::try_from(number).ok()?;
+        operand.is_legal(self.scope(before)).then_some(operand)
     }
 
     // The step with these numbers that is legal behind `before` steps, where there is one.
@@ -34,10 +29,7 @@ impl Layout {
             left: self.operand(left, before)?,
             right: self.operand(right, before)?,
         };
-        if !step.is_legal(self.scope(before)) {
-            return None;
-        }
-        Some(step)
+        step.is_legal(self.scope(before)).then_some(step)
     }
 
     // The step that five bytes stand for behind `before` steps, where there is one.

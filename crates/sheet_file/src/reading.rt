@@ -63,12 +63,9 @@ pub fn read(file: &[u8], mut buffer: Vec<Step>) -> Result<Sheet, ReadRefused>
     let layout = checked.layout;
     fill_steps(layout.steps(file), layout, &mut buffer);
     let used = layout.used as usize;
-    match Sheet::make(checked.numerals, buffer, used, checked.outputs) {
-        Ok(sheet) => Ok(sheet),
-        Err(refused) => Err(ReadRefused {
-            why: refused.why,
-            place: 0,
-            buffer: refused.buffer,
-        }),
-    }
+    Sheet::make(checked.numerals, buffer, used, checked.outputs).map_err(|refused| ReadRefused {
+        why: refused.why,
+        place: 0,
+        buffer: refused.buffer,
+    })
 }

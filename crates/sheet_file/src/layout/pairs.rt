@@ -6,44 +6,61 @@ use crate::fault::Fault;
 use crate::layout::Layout;
 use sheet::Refusal;
 
-fn word_at(file: &[u8], p: usize) -> u16
-    requires { p + 2 ≤ length file.now }
-    ensures { result ≡ word_at file.now p }
-{
-    u16::from_le_bytes([file[p], file[p + 1]])
+// A file of the version that is read; its header stands in it whole.
+#[derive(Clone, Copy)]
+struct Header<'a> {
+    file: &'a [u8],
+    ghost long: { 13 ≤ length file.now },
 }
 
-// How many numerals the first pair gives.
-fn numerals_pair(file: &[u8]) -> Option<u8>
-    requires { 13 ≤ length file.now }
-    ensures { MatchOption result ((h : ℕ) → NumeralsPair file.now h → ⊥) (λ h. NumeralsPair file.now h) }
-{
-    let long = word_at(file, 3);
-    if word_at(file, 1) != 13 || long > 16 || long % 2 != 0 {
-        return None;
+impl<'a> Header<'a> {
+    fn of(file: &'a [u8]) -> Option<Header<'a>>
+        ensures { MatchOption result (Version file.now → ⊥) (λ h. (h.file.now ≡ file.now) × Version file.now) }
+    {
+        if file.len() < 13 || file[0] != 3 {
+            return None;
+        }
+        Some(Header { file })
     }
-    Some((long / 2) as u8)
-}
 
-// How many steps the second pair gives.
-fn steps_pair(file: &[u8], held: u8) -> Option<u16>
-    requires { 13 ≤ length file.now }
-    ensures { MatchOption result ((u : ℕ) → StepsPair file.now held u → ⊥) (λ u. StepsPair file.now held u) }
-{
-    let long = word_at(file, 7);
-    if word_at(file, 5) != 13 + 2 * u16::from(held) || long > 10000 || long % 5 != 0 {
-        return None;
+    fn word_at(&self, p: usize) -> u16
+        requires { p ≤ 11 }
+        ensures { result ≡ word_at self.now.file.now p }
+    {
+        u16::from_le_bytes([self.file[p], self.file[p + 1]])
     }
-    Some(long / 5)
-}
 
-// Whether the third pair gives the outputs, which end the file.
-fn outputs_pair(file: &[u8], layout: Layout) -> bool
-    requires { 13 ≤ length file.now }
-    ensures { Decides result (OutputsPair file.now layout.held layout.used) }
-{
-    let start = layout.outputs_at();
-    usize::from(word_at(file, 9)) == start && word_at(file, 11) == 32 && file.len() == start + 32
+    // How many numerals the first pair gives.
+    fn numerals(&self) -> Option<u8>
+        ensures { MatchOption result ((h : ℕ) → NumeralsPair self.now.file.now h → ⊥) (λ h. NumeralsPair self.now.file.now h) }
+    {
+        let long = self.word_at(3);
+        if self.word_at(1) != 13 || long > 16 || long % 2 != 0 {
+            return None;
+        }
+        Some((long / 2) as u8)
+    }
+
+    // How many steps the second pair gives.
+    fn steps(&self, held: u8) -> Option<u16>
+        ensures { MatchOption result ((u : ℕ) → StepsPair self.now.file.now held u → ⊥) (λ u. StepsPair self.now.file.now held u) }
+    {
+        let long = self.word_at(7);
+        if self.word_at(5) != 13 + 2 * u16::from(held) || long > 10000 || long % 5 != 0 {
+            return None;
+        }
+        Some(long / 5)
+    }
+
+    // Whether the third pair gives the outputs, which end the file.
+    fn has_outputs(&self, layout: Layout) -> bool
+        ensures { Decides result (OutputsPair self.now.file.now layout.held layout.used) }
+    {
+        let start = layout.outputs_at();
+        usize::from(self.word_at(9)) == start
+            && self.word_at(11) == 32
+            && self.file.len() == start + 32
+    }
 }
 
 fn wrong_at(place: usize) -> Fault
@@ -60,14 +77,12 @@ fn wrong_at(place: usize) -> Fault
 pub(crate) fn read_layout(file: &[u8]) -> Result<Layout, Fault>
     ensures { elim result [ Ok l ↦ LaidOut file.now l.held l.used | Err f ↦ (f.why ≡ WrongLayout) × BrokenLayout file.now f.place ] }
 {
-    if file.len() < 13 || file[0] != 3 {
-        return Err(wrong_at(0));
-    }
-    let held = numerals_pair(file).ok_or(wrong_at(1))?;
-    let used = steps_pair(file, held).ok_or(wrong_at(5))?;
+    let header = Header::of(file).ok_or(wrong_at(0))?;
+    let held = header.numerals().ok_or(wrong_at(1))?;
+    let used = header.steps(held).ok_or(wrong_at(5))?;
     let layout = Layout { held, used };
-    if !outputs_pair(file, layout) {
-        return Err(wrong_at(9));
-    }
-    Ok(layout)
+    header
+        .has_outputs(layout)
+        .then_some(layout)
+        .ok_or(wrong_at(9))
 }
