@@ -2,13 +2,15 @@
 use Rattle.std.proofs.Common.{◌≡◌, ℕ, zero, suc, ◌+◌, ◌-◌, ◌*◌, ◌/◌, ◌%◌, ◌<◌, ◌≤◌, ltb, ◌≢◌, List, [], ◌∷◌, ◌++◌, length, get_or, take, drop, set, Ok, Err, sym, refl, ap, ◌∙◌, subst, ⊎_elim, append_assoc, add_comm, mul-zero, mul-suc, arith}
 use native.Mathlib.Nat.{lt_of_mul-lt-mul_left}
 use Rattle.std.specs.List.{flat_map}
+use Rattle.std.specs.Simd.{first_chunks}
 use Rattle.std.proofs.lemmas.Bool.{cases_lt, lt-ltb, le-ltb, cond-true, cond-false}
-use Rattle.std.proofs.lemmas.List.{take_more_set, flat_map_more, get_or-set_same, get_or-set_other, drop-set-lt, drop-drop, drop_at, take_at, length-append, append-nil, nil_from_length}
+use Rattle.std.proofs.lemmas.List.{take_more_set, flat_map_more, get_or-set_same, get_or-set_other, drop-set-lt, drop-drop, take-append-drop, drop_at, take_at, length-append, append-nil, nil_from_length}
 use Rattle.sheet.specs.declared.refusal.Refusal.{Refusal}
 use Rattle.sheet.specs.Numerals.{push_answer}
+use Rattle.sheet_file.specs.Bytes.{word_bytes}
 use Rattle.sheet_file.specs.Reading.{entry, FirstBad, AllGood, NumeralEntry}
 
--- five bytes and the rest; two bytes and the rest
+-- five bytes and the rest
 pub five_first : (xs : List ℕ) → 5 ≤ length xs → xs ≡ get_or xs 0 0 ∷ get_or xs 1 0 ∷ get_or xs 2 0 ∷ get_or xs 3 0 ∷ get_or xs 4 0 ∷ drop 5 xs
 five_first [] h = absurd (omega arith)
 five_first (a ∷ []) h = absurd (omega arith)
@@ -16,11 +18,6 @@ five_first (a ∷ b ∷ []) h = absurd (omega arith)
 five_first (a ∷ b ∷ d ∷ []) h = absurd (omega arith)
 five_first (a ∷ b ∷ d ∷ e ∷ []) h = absurd (omega arith)
 five_first (a ∷ b ∷ d ∷ e ∷ f ∷ xs) h = refl
-
-pub two_first : (xs : List ℕ) → 2 ≤ length xs → xs ≡ get_or xs 0 0 ∷ get_or xs 1 0 ∷ drop 2 xs
-two_first [] h = absurd (omega arith)
-two_first (a ∷ []) h = absurd (omega arith)
-two_first (a ∷ b ∷ xs) h = refl
 
 module _ {X : Type 0} (f : X → List ℕ) (w : ℕ) (wide : (x : X) → length (f x) ≡ w) where
   pub length_row : (xs : List X) → length (flat_map f xs) ≡ w * length xs
@@ -100,10 +97,10 @@ behind_more n buffer start x same =
     drop-set-lt (n + 1) buffer n x lt ∙ sym (drop-drop 1 n buffer) ∙ ap (drop 1) same ∙ drop-drop 1 n start
 
 -- no numeral has the bytes of a number below 2
-pub no_numeral : (low high n : ℕ) → n ≡ low + 256 * high → n < 2 → NumeralEntry 0 (low ∷ high ∷ []) → ⊥
-no_numeral low high n q small (m, large, same) =
-    let a : m % 256 ≡ low = ap (λ (ys : List ℕ). get_or ys 0 0) same in
-    let b : m / 256 ≡ high = ap (λ (ys : List ℕ). get_or ys 1 0) same in
+pub no_numeral : (bytes : List ℕ) (n : ℕ) → n ≡ get_or bytes 0 0 + 256 * get_or bytes 1 0 → n < 2 → NumeralEntry 0 bytes → ⊥
+no_numeral bytes n q small (m, large, same) =
+    let a : m % 256 ≡ get_or bytes 0 0 = ap (λ (ys : List ℕ). get_or ys 0 0) same in
+    let b : m / 256 ≡ get_or bytes 1 0 = ap (λ (ys : List ℕ). get_or ys 1 0) same in
     omega arith
 
 -- a numeral that is refused where one more finds a place is below 2
@@ -113,3 +110,29 @@ push_refused held n e refused free =
     (λ l. let taken : push_answer held n ≡ Ok tt = cond-true (ltb held 8) _ _ (lt-ltb held 8 free) ∙ cond-false (ltb n 2) _ _ (le-ltb n 2 l) in
     let z : ◌≡◌ {A = ℕ} 0 1 = cc (refused ∙ taken) in omega arith)
     (cases_lt n 2)
+
+-- a section cut into entries of w bytes
+pub chunk_at : (w n : ℕ) (xs : List ℕ) (k : ℕ) (d : List ℕ) → k < n → get_or (first_chunks w n xs) k d ≡ entry w xs k
+chunk_at w zero xs k d h = absurd (omega arith)
+chunk_at w (suc n) xs zero d h = ap (λ (m : ℕ). take w (drop m xs)) (sym (mul-zero w))
+chunk_at w (suc n) xs (suc k) d h =
+    chunk_at w n (drop w xs) k d (omega arith) ∙ ap (take w) (drop-drop (w * k) w xs) ∙ ap (λ (m : ℕ). take w (drop m xs)) (sym (mul-suc w k ∙ add_comm (w * k) w))
+
+-- the k-th of the entries of two bytes, and the section from there on
+pub two_at : (section : List ℕ) (chunks : List (List ℕ)) (k : ℕ) → chunks ≡ first_chunks 2 (length section / 2) section → length chunks ≡ length section / 2 → k < length chunks → (get_or chunks k [] ≡ entry 2 section k) × (drop (2 * k) section ≡ get_or chunks k [] ++ drop (2 * (k + 1)) section)
+two_at section chunks k front long h =
+    let within : k < length section / 2 = omega arith in
+    let left = drop (2 * k) section in
+    let next : 2 * k + 2 ≡ 2 * (k + 1) = omega arith in
+    let here : get_or chunks k [] ≡ entry 2 section k = ap (λ (xs : List (List ℕ)). get_or xs k []) front ∙ chunk_at 2 (length section / 2) section k [] within in
+    (here, sym (take-append-drop 2 left) ∙ ap (λ (bs : List ℕ). bs ++ drop 2 left) (sym here) ∙ ap (λ (ys : List ℕ). get_or chunks k [] ++ ys) (drop-drop 2 (2 * k) section ∙ ap (λ (n : ℕ). drop n section) next))
+
+-- two bytes are those of the number that they make
+pub word_back : (bytes : List ℕ) (n : ℕ) → length bytes ≡ 2 → get_or bytes 0 0 < 256 → n ≡ get_or bytes 0 0 + get_or bytes 1 0 * 256 → bytes ≡ word_bytes n
+word_back [] n long low e = absurd (omega arith)
+word_back (a ∷ []) n long low e = absurd (omega arith)
+word_back (a ∷ b ∷ []) n long low e =
+    let x : a ≡ n % 256 = omega arith in
+    let y : b ≡ n / 256 = omega arith in
+    λ i. x i ∷ y i ∷ []
+word_back (a ∷ b ∷ d ∷ xs) n long low e = absurd (omega arith)

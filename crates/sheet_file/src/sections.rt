@@ -12,8 +12,6 @@ use crate::layout::Layout;
 use crate::section::Section;
 use sheet::{Numerals, Operand, Refusal, Step};
 
-// The sections' readers take entries off by a slice pattern (a rule of the project), and so count their places by hand.
-
 // The numerals of a section, or the first below 2.
 pub(crate) fn read_numerals(section: Section) -> Result<Numerals, Fault>
     requires few { length section.bytes.now ≤ 16 }
@@ -21,18 +19,19 @@ pub(crate) fn read_numerals(section: Section) -> Result<Numerals, Fault>
     ensures { elim result [ Ok ns ↦ flat_map word_bytes (numerals_list ns) ≡ section.entry.bytes.now | Err f ↦ FaultIn SmallNumeral 2 NumeralEntry section.entry.start section.entry.bytes.now f ] }
 {
     let mut numerals = Numerals::none();
-    let mut left = section.bytes;
-    while let [low, high, rest @ ..] = left {
+    let (entries, _) = section.bytes.as_chunks::<2>();
+    for (k, [low, high]) in entries.iter().enumerate() {
         if let Err(_) = numerals.push(u16::from_le_bytes([*low, *high])) {
             return Err(Fault {
                 why: Refusal::SmallNumeral,
-                place: section.start + (section.bytes.len() - left.len()),
+                place: section.start + 2 * k,
             });
         }
-        left = rest;
     }
     Ok(numerals)
 }
+
+// The steps are taken off by a slice pattern (a rule of the project); so their numbers are counted by hand.
 
 // Whether the steps of a section are legal; if not, the first that is not.
 pub(crate) fn check_steps(section: Section, layout: Layout) -> Result<(), Fault>
@@ -79,18 +78,15 @@ pub(crate) fn read_outputs(section: Section, layout: Layout) -> Result<[Operand;
     ensures { elim result [ Ok os ↦ (length os ≡ 16) × (flat_map output_bytes os ≡ section.entry.bytes.now) × LegalOperands layout.held layout.used 16 os | Err f ↦ FaultIn IllegalOutput 2 (OutputEntry layout.held layout.used) section.entry.start section.entry.bytes.now f ] }
 {
     let mut outputs = [Operand::default(); 16];
-    let mut left = section.bytes;
-    let mut k = 0;
-    while let [low, high, rest @ ..] = left {
-        let Some(operand) = layout.output([*low, *high]) else {
+    let (entries, _) = section.bytes.as_chunks::<2>();
+    for (k, bytes) in entries.iter().enumerate() {
+        let Some(operand) = layout.output(*bytes) else {
             return Err(Fault {
                 why: Refusal::IllegalOutput,
                 place: section.start + 2 * k,
             });
         };
         outputs[k] = operand;
-        k += 1;
-        left = rest;
     }
     Ok(outputs)
 }

@@ -1,11 +1,11 @@
-use Rattle.std.proofs.Common.{◌≡◌, ℕ, ◌+◌, ◌-◌, ◌*◌, ◌<◌, ◌≤◌, List, [], ◌∷◌, ◌++◌, length, get_or, take, refl, ap, subst, arith, rules}
+use Rattle.std.proofs.Common.{◌≡◌, ℕ, ◌+◌, ◌-◌, ◌*◌, ◌<◌, List, [], ◌++◌, length, get_or, drop, refl, ap, ◌∙◌, sym, subst, arith, rules}
 use Rattle.std.specs.List.{flat_map}
-use Rattle.std.proofs.lemmas.List.{length-append}
+use Rattle.std.proofs.lemmas.List.{length-append, length-drop, length-take-le}
 use Rattle.sheet.specs.Numerals.{numerals_list}
 use Rattle.sheet.proofs.Rules.{numerals_large}
 use Rattle.sheet_file.specs.Bytes.{word_bytes}
-use Rattle.sheet_file.specs.Reading.{NumeralEntry}
-use Rattle.sheet_file.proofs.Rows.{two_first, bad_behind, row_all, length_row, push_refused, no_numeral}
+use Rattle.sheet_file.specs.Reading.{NumeralEntry, FirstBad}
+use Rattle.sheet_file.proofs.Rows.{bad_behind, length_row, push_refused, no_numeral, row_more, two_at, word_back}
 use Rattle.sheet_file.proofs.sections.read_numerals.Goals as goal
 
 -- how long the row so far is
@@ -18,26 +18,41 @@ long_row xs left section whole =
 
 pub returns-in-Err : goal.returns-in-Err
 returns-in-Err c =
-    let left = c.loop-left.left.now in
-    let ns = c.loop-left.numerals in
+    let ns = numerals_list c.loop-k.numerals in
     let section = c.args.section.bytes.now in
+    let k = c.loop-k.k in
+    let left = drop (2 * k) section in
     let n = c.from_le_bytes.result in
-    let e = long_row (numerals_list ns) left section c.loop-left.invariant in
+    let bytes = get_or c.as_chunks.result.0.now k [] in
+    let at = two_at section c.as_chunks.result.0.now k c.as_chunks.ensures.front c.as_chunks.ensures.front_len c.loop-k-test.true in
+    let e = long_row ns left section c.loop-k.invariant in
+    let long = length-drop (2 * k) section in
+    let under = c.loop-k-test.true in
+    let many = c.as_chunks.ensures.front_len in
     let few = c.requires.few in
-    let long : 2 ≤ length left = search rules in
-    let lo : get_or left 0 0 < 256 = search rules in
-    let free : length (numerals_list ns) < 8 = omega arith in
-    let small : n < 2 = push_refused (length (numerals_list ns)) n _ c.in-Err.ensures.answer free in
-    let two : take 2 left ≡ get_or left 0 0 ∷ get_or left 1 0 ∷ [] = ap (take 2) (two_first left long) in
-    let q : n ≡ get_or left 0 0 + 256 * get_or left 1 0 = omega (arith, c.from_le_bytes.ensures) in
-    let first = bad_behind word_bytes 2 (λ m. refl) NumeralEntry (numerals_list ns) left section c.loop-left.invariant (omega arith)
-    (λ k d h. (get_or (numerals_list ns) k d, numerals_large ns k d h, refl)) 0
-    (λ good. no_numeral (get_or left 0 0) (get_or left 1 0) n q small (subst (NumeralEntry 0) two good)) in
-    record { reason = refl; at = length section - length left; place = refl; first = first }
+    let free : length ns < 8 = omega arith in
+    let small : n < 2 = push_refused (length ns) n _ c.in-Err.ensures.answer free in
+    let q : n ≡ get_or bytes 0 0 + 256 * get_or bytes 1 0 = omega (arith, c.from_le_bytes.ensures) in
+    let place : length section - length left ≡ 2 * k = omega arith in
+    let first = bad_behind word_bytes 2 (λ m. refl) NumeralEntry ns left section c.loop-k.invariant (omega arith)
+    (λ j d h. (get_or ns j d, numerals_large c.loop-k.numerals j d h, refl)) 0
+    (λ good. no_numeral bytes n q small (subst (NumeralEntry 0) (sym at.0) good)) in
+    record { reason = refl; at = 2 * k; place = refl; first = subst (λ (m : ℕ). FirstBad 2 NumeralEntry section m) place first }
 
-pub returns : goal.returns
-returns c =
-    let left = c.loop-left.left.now in
-    let e = long_row (numerals_list c.loop-left.numerals) left c.args.section.bytes.now c.loop-left.invariant in
-    let none : length left ≡ 0 = search rules in
-    row_all word_bytes (numerals_list c.loop-left.numerals) left c.args.section.bytes.now c.loop-left.invariant none
+pub loop-k-preserved : goal.loop-k-preserved
+loop-k-preserved c =
+    let ns = numerals_list c.loop-k.numerals in
+    let section = c.args.section.bytes.now in
+    let k = c.loop-k.k in
+    let n = c.from_le_bytes.result in
+    let bytes = get_or c.as_chunks.result.0.now k [] in
+    let rest = drop (2 * (k + 1)) section in
+    let at = two_at section c.as_chunks.result.0.now k c.as_chunks.ensures.front c.as_chunks.ensures.front_len c.loop-k-test.true in
+    let left = drop (2 * k) section in
+    let long = length-drop (2 * k) section in
+    let under = c.loop-k-test.true in
+    let many = c.as_chunks.ensures.front_len in
+    let two : length bytes ≡ 2 = ap length at.0 ∙ length-take-le 2 left (omega arith) in
+    let low : get_or bytes 0 0 < 256 = search rules in
+    let same : bytes ≡ word_bytes n = word_back bytes n two low c.from_le_bytes.ensures in
+    ap (λ (xs : List ℕ). flat_map word_bytes xs ++ rest) c.in_default.ensures.held ∙ row_more word_bytes ns n (drop (2 * k) section) rest section c.loop-k.invariant (at.1 ∙ ap (λ (bs : List ℕ). bs ++ rest) same)
