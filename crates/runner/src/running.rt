@@ -23,7 +23,7 @@ fn run_steps<R: Ring>(steps: &[Step], setting: &Setting<R>, bench: &mut Bench<R>
     }
 }
 
-// Each output's value, in its place.
+// Each output's value, in its place. No `zip` with `iter_mut`: what a loop leaves behind that loan is not proved.
 fn run_outputs<R: Ring>(
     operands: &[Operand],
     setting: &Setting<R>,

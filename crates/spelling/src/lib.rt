@@ -21,6 +21,7 @@ pub trait Spelled: Ring + Display {
     // the bytes that print the value
     ghost shows: { Self → List ℕ };
 
+    // Not `FromStr`: the contract says exactly which texts spell a value, and an error would say no more than that.
     fn read(text: &str) -> Option<Self>
         ensures { MatchOption result ((x : Self) → spells text.now x → ⊥) (λ x. spells text.now x) };
 

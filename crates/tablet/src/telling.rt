@@ -51,8 +51,8 @@ pub(crate) fn report<R: Spelled>(
     ensures { IfOk result (λ t. string_bytes t ≡ report_text (sheet_steps sheet.now) (sheet_outputs sheet.now) (map R.Spelled.shows values.now)) }
 {
     let mut text = counts_text(heap, sheet)?;
-    for (f, operand) in sheet.outputs().iter().enumerate() {
-        push_formula(&mut text, f, *operand, values[f])?;
+    for (f, (operand, value)) in sheet.outputs().iter().zip(values).enumerate() {
+        push_formula(&mut text, f, *operand, *value)?;
     }
     Ok(text)
 }

@@ -1,5 +1,10 @@
-use Rattle.std.proofs.Common.{◌≡◌, ℕ, ◌<◌, cond, List, [], ◌++◌, map, length, get_or, string_bytes, sym, ap, ◌∙◌, arith}
-use Rattle.std.proofs.lemmas.List.{get_or-map, get_or_default}
+use Rattle.std.proofs.Common.{◌≡◌, ℕ, ◌+◌, ◌<◌, cond, List, [], ◌∷◌, ◌++◌, map, length, get_or, string_bytes, sym, ap, ◌∙◌, zero-add, arith}
+use Rattle.std.specs.List.{zip, enumerate_from}
+use Rattle.std.proofs.lemmas.Iterator.{YieldsList-from_slice, YieldsList-from_zip}
+use Rattle.std.proofs.lemmas.Iterator.Consumers.{YieldsList-from_enumerate, YieldsList-turn, YieldsList-end}
+use Rattle.std.proofs.lemmas.List.{get_or-map, get_or_default, length-append}
+use Rattle.std.proofs.lemmas.List.FromFn.{length-enumerate_from, get_or-enumerate_from}
+use Rattle.std.proofs.lemmas.Slice.Zip.{length-zip, get_or-zip}
 use Rattle.sheet.specs.declared.operand.Operand.{Operand}
 use Rattle.sheet.specs.declared.operand.Operand.TheVariants.{Zero}
 use Rattle.sheet.specs.Legal.{is_zero}
@@ -9,11 +14,23 @@ use Rattle.tablet.specs.Telling.{counts_line, out_line, formula_line, lines_belo
 use Rattle.tablet.proofs.Texts.{lines_more, no_lines}
 use Rattle.tablet.proofs.telling.report.Goals as goal
 
+-- what a turn over two lists, with the number of the turn, is given
+turn_at : {X Y : Type 0} (os : List X) (vs : List Y) (n f : ℕ) (o : X) (v : Y) → n < length (enumerate_from 0 (zip os vs)) → (f, (o, v)) ≡ get_or (enumerate_from 0 (zip os vs)) n (f, (o, v)) → (f ≡ n) × (o ≡ get_or os n o) × (v ≡ get_or vs n v) × (n < length os) × (n < length vs)
+turn_at {X} {Y} os vs n f o v within h =
+    let z = zip os vs in
+    let many = length-enumerate_from 0 z in
+    let least = length-zip os vs in
+    let among : n < length z = omega arith in
+    let a : n < length os = omega arith in
+    let b : n < length vs = omega arith in
+    let e : ◌≡◌ {A = ℕ × (X × Y)} (f, (o, v)) (0 + n, (get_or os n o, get_or vs n v)) = h ∙ get_or-enumerate_from 0 z n (f, (o, v)) among ∙ ap (λ (p : X × Y). (0 + n, p)) (get_or-zip os vs n (o, v) a b) in
+    (ap (λ (p : ℕ × (X × Y)). p.0) e ∙ zero-add n, ap (λ (p : ℕ × (X × Y)). p.1.0) e, ap (λ (p : ℕ × (X × Y)). p.1.1) e, a, b)
+
 -- the line that a turn adds is the formula's
-line_here : (outputs items : List Operand) (values : List (List ℕ)) (f : ℕ) (d : Operand) (text more value : List ℕ) → items ≡ outputs → f < length items → value ≡ get_or values f [] → more ≡ text ++ cond (is_zero (get_or items f d)) [] (out_line f value) → more ≡ text ++ formula_line outputs values f
-line_here outputs items values f d text more value are within shown added =
-    let o : get_or items f d ≡ get_or outputs f Zero = get_or_default items f d Zero within ∙ ap (λ (xs : List Operand). get_or xs f Zero) are in
-    added ∙ (λ i. text ++ cond (is_zero (o i)) [] (out_line f (shown i)))
+line_here : (outputs : List Operand) (values : List (List ℕ)) (n f : ℕ) (o : Operand) (text more value : List ℕ) → f ≡ n → o ≡ get_or outputs n o → n < length outputs → value ≡ get_or values n [] → more ≡ text ++ cond (is_zero o) [] (out_line f value) → more ≡ text ++ formula_line outputs values n
+line_here outputs values n f o text more value same here within shown added =
+    let at : o ≡ get_or outputs n Zero = here ∙ get_or_default outputs n o Zero within in
+    added ∙ (λ i. text ++ cond (is_zero (at i)) [] (out_line (same i) (shown i)))
 
 pub loop-f-init : goal.loop-f-init
 loop-f-init g c = no_lines (counts_line (sheet_steps c.args.sheet.now)) (string_bytes c.in_ok-text.text) (formula_line (sheet_outputs c.args.sheet.now) (map g.R.Spelled.shows c.args.values.now)) c.in_ok-text.ensures
@@ -21,25 +38,41 @@ loop-f-init g c = no_lines (counts_line (sheet_steps c.args.sheet.now)) (string_
 pub loop-f-preserved : goal.loop-f-preserved
 loop-f-preserved g c =
     let sheet = c.args.sheet.now in
+    let outputs = sheet_outputs sheet in
     let shows = g.R.Spelled.shows in
     let values = c.args.values.now in
-    let f = c.loop-f.f in
-    let are = c.outputs-operand-items.ensures in
-    let sixteen = (sheet_lawful sheet).sixteen in
-    let long = ap length are in
-    let all = c.requires in
-    let under = c.loop-f-test.true in
-    let within : f < length values = omega arith in
-    lines_more (counts_line (sheet_steps sheet)) (string_bytes c.loop-f.text) (string_bytes c.push_formula.new.text) f (formula_line (sheet_outputs sheet) (map shows values)) c.loop-f.invariant
-    (line_here (sheet_outputs sheet) c.outputs-operand-items.result.now (map shows values) f _ (string_bytes c.loop-f.text) (string_bytes c.push_formula.new.text) (shows c.index-values-f.result) are under
-    (ap shows c.index-values-f.is ∙ sym (get_or-map shows values f c.index-values-f.result [] within)) c.in_ok-push_formula.ensures)
+    let s = c.into_iter-f-iterator.result in
+    let first : s.iter.a.rest.now ≡ outputs = cc in
+    let second : s.iter.b.rest.now ≡ values = cc in
+    let none : s.count ≡ 0 = cc in
+    let road = YieldsList-from_enumerate {s = s} (YieldsList-from_zip (YieldsList-from_slice outputs first) (YieldsList-from_slice values second)) none in
+    let n = length c.loop-f.yielded in
+    let f = c.in-Some.f in
+    let o = c.in-Some.operand in
+    let v = c.in-Some.value in
+    let turn = YieldsList-turn road c.loop-f.yielded c.loop-f.f-iterator c.loop-f.yielded_by c.next.result c.next.new.self (f, (o, v)) c.in-Some.is c.next.ensures.steps in
+    let at = turn_at outputs values n f o.now v.now turn.0 turn.1 in
+    let line = formula_line outputs (map shows values) in
+    lines_more (counts_line (sheet_steps sheet)) (string_bytes c.loop-f.text) (string_bytes c.push_formula.new.text) n line c.loop-f.invariant
+    (line_here outputs (map shows values) n f o.now (string_bytes c.loop-f.text) (string_bytes c.push_formula.new.text) (shows v.now) at.0 at.1 at.3
+    (ap shows at.2 ∙ sym (get_or-map shows values n v.now [] at.4)) c.in_ok-push_formula.ensures)
+    ∙ ap (λ (k : ℕ). counts_line (sheet_steps sheet) ++ lines_below k line) (sym (length-append c.loop-f.yielded ((f, (o, v)) ∷ [])))
 
 pub returns : goal.returns
 returns g c =
     let sheet = c.args.sheet.now in
+    let outputs = sheet_outputs sheet in
+    let values = c.args.values.now in
+    let s = c.into_iter-f-iterator.result in
+    let first : s.iter.a.rest.now ≡ outputs = cc in
+    let second : s.iter.b.rest.now ≡ values = cc in
+    let none : s.count ≡ 0 = cc in
+    let road = YieldsList-from_enumerate {s = s} (YieldsList-from_zip (YieldsList-from_slice outputs first) (YieldsList-from_slice values second)) none in
+    let end = YieldsList-end road c.loop-f.yielded c.loop-f.f-iterator c.loop-f.yielded_by c.next.result c.next.new.self c.in-None.is c.next.ensures.steps in
     let sixteen = (sheet_lawful sheet).sixteen in
-    let long = ap length c.outputs-operand-items.ensures in
-    let end = c.loop-f-test.false in
-    let most = c.loop-f.auto.f-end in
-    let all : c.loop-f.f ≡ 16 = omega arith in
-    c.loop-f.invariant ∙ ap (λ (n : ℕ). counts_line (sheet_steps sheet) ++ lines_below n (formula_line (sheet_outputs sheet) (map g.R.Spelled.shows c.args.values.now))) all
+    let many = length-enumerate_from 0 (zip outputs values) in
+    let least = length-zip outputs values in
+    let long = c.requires in
+    let last = end.1 in
+    let all : length c.loop-f.yielded ≡ 16 = omega arith in
+    c.loop-f.invariant ∙ ap (λ (n : ℕ). counts_line (sheet_steps sheet) ++ lines_below n (formula_line outputs (map g.R.Spelled.shows values))) all
