@@ -15,6 +15,10 @@ unfolding lines_below
 lines_more front text more n line before here =
     here ∙ ap (λ (xs : List ℕ). xs ++ line n) before ∙ append_assoc front (lines_below n line) (line n) ∙ ap (λ (k : ℕ). front ++ lines_below k line) (sym (add-one n))
 
+-- the same lines, by another name for how many
+pub lines_to : (front text : List ℕ) (n m : ℕ) (line : ℕ → List ℕ) → text ≡ front ++ lines_below n line → n ≡ m → text ≡ front ++ lines_below m line
+lines_to front text n m line so_far same = so_far ∙ ap (λ (k : ℕ). front ++ lines_below k line) same
+
 -- no lines yet
 pub no_lines : (front text : List ℕ) (line : ℕ → List ℕ) → text ≡ front → text ≡ front ++ lines_below 0 line
 unfolding lines_below

@@ -1,6 +1,10 @@
-use Rattle.std.proofs.Common.{◌≡◌, ℕ, ◌+◌, ◌<◌, cond, List, [], ◌∷◌, ◌++◌, map, length, get_or, string_bytes, sym, ap, ◌∙◌, zero-add, arith}
+use Rattle.std.proofs.Common.{Iter, ◌≡◌, ℕ, ◌+◌, ◌<◌, cond, List, [], ◌∷◌, ◌++◌, map, length, get_or, string_bytes, sym, ap, ◌∙◌, zero-add, arith}
 use Rattle.std.specs.List.{zip, enumerate_from}
-use Rattle.std.proofs.lemmas.Iterator.{YieldsList-from_slice, YieldsList-from_zip}
+use Rattle.std.specs.Iterator.Adapters.{enumerate_steps}
+use Rattle.std.specs.declared.iter.Enumerate.{Enumerate}
+use Rattle.std.specs.declared.iter.Zip.{Zip}
+use Rattle.std.proofs.iter.Yields.{fronts}
+use Rattle.std.proofs.lemmas.Iterator.{YieldsList, zips, YieldsList-from_slice, YieldsList-from_zip}
 use Rattle.std.proofs.lemmas.Iterator.Consumers.{YieldsList-from_enumerate, YieldsList-turn, YieldsList-end}
 use Rattle.std.proofs.lemmas.List.{get_or-map, get_or_default, length-append}
 use Rattle.std.proofs.lemmas.List.FromFn.{length-enumerate_from, get_or-enumerate_from}
@@ -10,9 +14,13 @@ use Rattle.sheet.specs.declared.operand.Operand.TheVariants.{Zero}
 use Rattle.sheet.specs.Legal.{is_zero}
 use Rattle.sheet.specs.Parts.{sheet_steps, sheet_outputs}
 use Rattle.sheet.proofs.Rules.{sheet_lawful}
-use Rattle.tablet.specs.Telling.{counts_line, out_line, formula_line, lines_below}
-use Rattle.tablet.proofs.Texts.{lines_more, no_lines}
+use Rattle.tablet.specs.Telling.{counts_line, out_line, formula_line}
+use Rattle.tablet.proofs.Texts.{lines_more, lines_to, no_lines}
 use Rattle.tablet.proofs.telling.report.Goals as goal
+
+-- what a loop over two slices, with the number of the turn, goes over
+over : {R : Type 0} (s : Enumerate (Zip (Iter Operand) (Iter R))) (os : List Operand) (vs : List R) → s.iter.a.rest.now ≡ os → s.iter.b.rest.now ≡ vs → s.count ≡ 0 → YieldsList {B = ℕ × (Operand × R)} (enumerate_steps (zips fronts fronts)) (λ p. (p.0, (p.1.0.now, p.1.1.now))) s (enumerate_from 0 (zip os vs))
+over s os vs first second none = YieldsList-from_enumerate {s = s} (YieldsList-from_zip (YieldsList-from_slice os first) (YieldsList-from_slice vs second)) none
 
 -- what a turn over two lists, with the number of the turn, is given
 turn_at : {X Y : Type 0} (os : List X) (vs : List Y) (n f : ℕ) (o : X) (v : Y) → n < length (enumerate_from 0 (zip os vs)) → (f, (o, v)) ≡ get_or (enumerate_from 0 (zip os vs)) n (f, (o, v)) → (f ≡ n) × (o ≡ get_or os n o) × (v ≡ get_or vs n v) × (n < length os) × (n < length vs)
@@ -41,38 +49,33 @@ loop-f-preserved g c =
     let outputs = sheet_outputs sheet in
     let shows = g.R.Spelled.shows in
     let values = c.args.values.now in
-    let s = c.into_iter-f-iterator.result in
-    let first : s.iter.a.rest.now ≡ outputs = cc in
-    let second : s.iter.b.rest.now ≡ values = cc in
-    let none : s.count ≡ 0 = cc in
-    let road = YieldsList-from_enumerate {s = s} (YieldsList-from_zip (YieldsList-from_slice outputs first) (YieldsList-from_slice values second)) none in
+    let turns = over c.into_iter-f-iterator.result outputs values (cc) (cc) (cc) in
     let n = length c.loop-f.yielded in
     let f = c.in-Some.f in
     let o = c.in-Some.operand in
     let v = c.in-Some.value in
-    let turn = YieldsList-turn road c.loop-f.yielded c.loop-f.f-iterator c.loop-f.yielded_by c.next.result c.next.new.self (f, (o, v)) c.in-Some.is c.next.ensures.steps in
+    let turn = YieldsList-turn turns c.loop-f.yielded c.loop-f.f-iterator c.loop-f.yielded_by c.next.result c.next.new.self (f, (o, v)) c.in-Some.is c.next.ensures.steps in
     let at = turn_at outputs values n f o.now v.now turn.0 turn.1 in
+    let front = counts_line (sheet_steps sheet) in
     let line = formula_line outputs (map shows values) in
-    lines_more (counts_line (sheet_steps sheet)) (string_bytes c.loop-f.text) (string_bytes c.push_formula.new.text) n line c.loop-f.invariant
-    (line_here outputs (map shows values) n f o.now (string_bytes c.loop-f.text) (string_bytes c.push_formula.new.text) (shows v.now) at.0 at.1 at.3
-    (ap shows at.2 ∙ sym (get_or-map shows values n v.now [] at.4)) c.in_ok-push_formula.ensures)
-    ∙ ap (λ (k : ℕ). counts_line (sheet_steps sheet) ++ lines_below k line) (sym (length-append c.loop-f.yielded ((f, (o, v)) ∷ [])))
+    let more = string_bytes c.push_formula.new.text in
+    lines_to front more (n + 1) (length (c.loop-f.yielded ++ (f, (o, v)) ∷ [])) line
+    (lines_more front (string_bytes c.loop-f.text) more n line c.loop-f.invariant
+    (line_here outputs (map shows values) n f o.now (string_bytes c.loop-f.text) more (shows v.now) at.0 at.1 at.3
+    (ap shows at.2 ∙ sym (get_or-map shows values n v.now [] at.4)) c.in_ok-push_formula.ensures))
+    (sym (length-append c.loop-f.yielded ((f, (o, v)) ∷ [])))
 
 pub returns : goal.returns
 returns g c =
     let sheet = c.args.sheet.now in
     let outputs = sheet_outputs sheet in
     let values = c.args.values.now in
-    let s = c.into_iter-f-iterator.result in
-    let first : s.iter.a.rest.now ≡ outputs = cc in
-    let second : s.iter.b.rest.now ≡ values = cc in
-    let none : s.count ≡ 0 = cc in
-    let road = YieldsList-from_enumerate {s = s} (YieldsList-from_zip (YieldsList-from_slice outputs first) (YieldsList-from_slice values second)) none in
-    let end = YieldsList-end road c.loop-f.yielded c.loop-f.f-iterator c.loop-f.yielded_by c.next.result c.next.new.self c.in-None.is c.next.ensures.steps in
+    let turns = over c.into_iter-f-iterator.result outputs values (cc) (cc) (cc) in
+    let end = YieldsList-end turns c.loop-f.yielded c.loop-f.f-iterator c.loop-f.yielded_by c.next.result c.next.new.self c.in-None.is c.next.ensures.steps in
     let sixteen = (sheet_lawful sheet).sixteen in
     let many = length-enumerate_from 0 (zip outputs values) in
     let least = length-zip outputs values in
     let long = c.requires in
     let last = end.1 in
     let all : length c.loop-f.yielded ≡ 16 = omega arith in
-    c.loop-f.invariant ∙ ap (λ (n : ℕ). counts_line (sheet_steps sheet) ++ lines_below n (formula_line outputs (map g.R.Spelled.shows values))) all
+    lines_to (counts_line (sheet_steps sheet)) (string_bytes c.loop-f.text) (length c.loop-f.yielded) 16 (formula_line outputs (map g.R.Spelled.shows values)) c.loop-f.invariant all
