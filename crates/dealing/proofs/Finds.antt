@@ -12,7 +12,8 @@ use Rattle.rewriting.specs.Styles.{Style, equal}
 use Rattle.rewriting.specs.Taking.{Kernel, alike, found, has_columns, spot, spots, take_of, takes_next, uncovered}
 use Rattle.rewriting.proofs.Parts.{equal_refl, equal_true}
 use Rattle.dealing.specs.Cards.{Named, column_of, columns_of}
-use Rattle.dealing.proofs.Namings.{alike_divided, alike_quotient, name_tells, spot_found}
+use Rattle.table.proofs.Alikes.{alike_divided, alike_quotient}
+use Rattle.dealing.proofs.Namings.{name_tells, spot_found}
 
 -- a column of a card tells a row: its name and its degree are those of the row
 pub record Tells (names : List Row) (x : Column) (r : Row) : Type 0 where

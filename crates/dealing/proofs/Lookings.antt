@@ -1,36 +1,31 @@
 -- Looking a row up among those that have names.
-use Rattle.std.proofs.Common.{◌≡◌, ℕ, suc, ◌+◌, Bool, true, false, cond, ◌||◌, eqb, List, [], ◌∷◌, ◌++◌, map, length, Some, None, Option, sym, refl, ap, ◌∙◌, ap₂, ⊎_elim, arith}
+use Rattle.std.proofs.Common.{◌≡◌, ℕ, suc, ◌+◌, Bool, true, false, cond, ◌&&◌, ◌||◌, eqb, List, [], ◌∷◌, ◌++◌, map, length, Some, None, Option, sym, refl, ap, ◌∙◌, ap₂, ⊎_elim, arith}
 use Rattle.std.proofs.lemmas.List.{length-map, map_push}
 use Rattle.std.proofs.lemmas.Iterator.Adapters.{position_from-zero}
 use Rattle.std.specs.List.{position, position_from}
-use Rattle.std.proofs.lemmas.Bool.{cases_Bool, cond-false, ne_eqb, or_left, or_parts, or_right}
-use Rattle.std.proofs.lemmas.Bool.Decides.{same_from_decides}
-use Rattle.algebra.specs.Cubes.{Same}
-use Rattle.algebra.specs.Rows.{Alike, Row}
+use Rattle.std.proofs.lemmas.Bool.{both_ways, cases_Bool, cond-false, eq-eqb, or_left, or_parts, or_right}
+use Rattle.algebra.specs.Cubes.{letters}
+use Rattle.algebra.specs.Rows.{Row}
 use Rattle.algebra.proofs.Degrees.{degree_same}
-use Rattle.cubes.specs.declared.row.Row.{Row as Coded}
 use Rattle.cubes.specs.Powers.{power}
-use Rattle.cubes.specs.Rows.{as_row, minus}
 use Rattle.rewriting.specs.Taking.{alike, found, spot}
 use Rattle.dealing.specs.declared.entry.Entry.{Entry}
 use Rattle.dealing.specs.Naming.{Naming, entry_row}
-use Rattle.dealing.proofs.Namings.{alike_decides}
+use Rattle.table.proofs.Alikes.{alike_decides, same_rows}
+use Rattle.cubes.specs.contracts.row.RowPartialEq.TheImpl.{eq-value}
 
--- rows of one sign are alike just where their powers are the same
-pub powers_tell : (a b : Coded) (t : Bool) → a.sign ≡ b.sign → (t ≡ true → Same (power a.cube) (power b.cube)) → (t ≡ false → Same (power a.cube) (power b.cube) → ⊥)
-    → t ≡ alike (as_row a) (as_row b)
-powers_tell a b t s y n =
-    same_from_decides {P = Alike (as_row a) (as_row b)} t (alike (as_row a) (as_row b))
-    ((λ e. record { sign = ap minus s; cubes = y e }), (λ p. ⊎_elim (λ e. e) (λ e. absurd (n e p.cubes)) (cases_Bool t)))
-    (alike_decides (as_row a) (as_row b))
-
--- entries of different degrees are not alike
-pub degrees_tell : (a b : Entry) → (a.degree ≡ b.degree → ⊥) → eqb a.degree b.degree ≡ alike (entry_row a) (entry_row b)
-degrees_tell a b n =
-    ne_eqb a.degree b.degree n
-    ∙ sym (⊎_elim
-    (λ e. absurd (n (a.counted ∙ degree_same (power a.row.cube) (power b.row.cube) ((alike_decides (entry_row a) (entry_row b)).0 e).cubes ∙ sym b.counted)))
-    (λ e. e) (cases_Bool (alike (entry_row a) (entry_row b))))
+-- what `==` says of two entries is whether their rows are alike: entries of different degrees are not
+pub entries_tell : (a b : Entry) → length a.row.cube.powers ≡ letters → length b.row.cube.powers ≡ letters
+    → (eqb a.degree b.degree && eq-value.it a.row b.row) ≡ alike (entry_row a) (entry_row b)
+entries_tell a b n m = go (eqb a.degree b.degree) refl
+  where
+    go : (d : Bool) → eqb a.degree b.degree ≡ d → (d && eq-value.it a.row b.row) ≡ alike (entry_row a) (entry_row b)
+    go true e = same_rows a.row b.row n m
+    go false e =
+        sym (⊎_elim
+        (λ t. absurd (both_ways (eqb a.degree b.degree) e (eq-eqb a.degree b.degree
+        (a.counted ∙ degree_same (power a.row.cube) (power b.row.cube) ((alike_decides (entry_row a) (entry_row b)).0 t).cubes ∙ sym b.counted))))
+        (λ f. f) (cases_Bool (alike (entry_row a) (entry_row b))))
 
 -- the place of the first entry alike is the name, if there is one
 pub place_is : (xs : List Entry) (r : Row) → position (λ x. alike (entry_row x) r) xs ≡ cond (found (map entry_row xs) r) (Some (spot (map entry_row xs) r)) None

@@ -1,36 +1,10 @@
--- Rows that are alike, and names of rows.
-use Rattle.std.proofs.Common.{◌≡◌, ℕ, suc, ◌<◌, Bool, true, false, cond, ◌||◌, eqb, List, [], ◌∷◌, ◌++◌, length, Decides, sym, refl, ap, ◌∙◌, subst, ap₂, ⊎_elim, arith}
-use Rattle.std.proofs.lemmas.Bool.{both_ways, cases_Bool, or_cases, or_left, or_right}
-use Rattle.std.proofs.lemmas.Bool.Decides.{Decides-and, Decides-below_and, Decides-eqb, Decides-like, same_from_decides}
-use Rattle.algebra.specs.Cubes.{Powers, Same, letters}
-use Rattle.algebra.specs.Rows.{Alike, Row, divides_test, quotient_row, row_in}
-use Rattle.algebra.proofs.Degrees.{divides_decides}
-use Rattle.rewriting.specs.Factor.{product_row}
-use Rattle.rewriting.specs.Taking.{alike, found, same_below, same_sign, spot}
-
--- the test for likeness
-same_decides : (a b : Powers) → Decides (same_below a b letters) (Same a b)
-unfolding same_below
-same_decides a b = Decides-below_and (λ l. eqb (a l) (b l)) (λ l. a l ≡ b l) (same_below a b) (λ l. Decides-eqb (a l) (b l)) refl (λ n. refl) letters
-
-sign_decides : (x y : Bool) → Decides (same_sign x y) (x ≡ y)
-sign_decides true y = ((λ e. sym e), (λ e. sym e))
-sign_decides false true = ((λ e. e), (λ e. e))
-sign_decides false false = ((λ e. refl), (λ e. refl))
-
-pub alike_decides : (r s : Row) → Decides (alike r s) (Alike r s)
-alike_decides r s =
-    Decides-like (alike r s) (λ p. record { sign = p.0; cubes = p.1 }) (λ p. (p.sign, p.cubes))
-    (Decides-and (same_sign r.negative s.negative) (same_below r.cube s.cube letters) (sign_decides r.negative s.negative) (same_decides r.cube s.cube))
-
-alike_first : (x r s : Row) → Alike r s → alike x r ≡ alike x s
-alike_first x r s h =
-    same_from_decides {P = Alike x s} (alike x r) (alike x s)
-    (Decides-like (alike x r)
-    (λ p. record { sign = p.sign ∙ h.sign; cubes = λ l k. p.cubes l k ∙ h.cubes l k })
-    (λ p. record { sign = p.sign ∙ sym h.sign; cubes = λ l k. p.cubes l k ∙ sym (h.cubes l k) })
-    (alike_decides x r))
-    (alike_decides x s)
+-- Names of rows.
+use Rattle.std.proofs.Common.{◌≡◌, ℕ, suc, ◌<◌, Bool, true, false, cond, ◌||◌, eqb, List, [], ◌∷◌, ◌++◌, length, sym, refl, ap, ◌∙◌, subst, ap₂, ⊎_elim, arith}
+use Rattle.std.proofs.lemmas.Bool.{both_ways, or_cases, or_left, or_right}
+use Rattle.std.proofs.lemmas.Bool.Decides.{Decides-eqb, Decides-like, same_from_decides}
+use Rattle.algebra.specs.Rows.{Alike, Row, row_in}
+use Rattle.rewriting.specs.Taking.{alike, found, spot}
+use Rattle.table.proofs.Alikes.{alike_decides, alike_first}
 
 -- rows that are alike have the same name
 pub spot_same : (names : List Row) (r s : Row) → Alike r s → spot names r ≡ spot names s
@@ -79,20 +53,3 @@ spot_more (x ∷ xs) ys r h = go (alike x r) h (spot_more xs ys r)
     go : (b : Bool) → (b || found xs r) ≡ true → (found xs r ≡ true → spot (xs ++ ys) r ≡ spot xs r) → cond b 0 (suc (spot (xs ++ ys) r)) ≡ cond b 0 (suc (spot xs r))
     go true e f = refl
     go false e f = ap suc (f e)
-
--- r over c is the column just where r is c times the column
-module _ (c : Powers) (r col : Row) where
-  pub alike_quotient : divides_test c r.cube ≡ true → alike (quotient_row c r) col ≡ alike r (product_row c col)
-  alike_quotient t =
-      let d = (divides_decides c r.cube).0 t in
-      same_from_decides {P = Alike (quotient_row c r) col} (alike (quotient_row c r) col) (alike r (product_row c col)) (alike_decides (quotient_row c r) col)
-      (Decides-like (alike r (product_row c col))
-      (λ p. record { sign = p.sign; cubes = λ l k. omega (arith, p.cubes l k, d l k) })
-      (λ p. record { sign = p.sign; cubes = λ l k. omega (arith, p.cubes l k, d l k) })
-      (alike_decides r (product_row c col)))
-
-  pub alike_divided : divides_test c r.cube ≡ false → alike r (product_row c col) ≡ false
-  alike_divided t =
-      ⊎_elim
-      (λ e. absurd (both_ways (divides_test c r.cube) t ((divides_decides c r.cube).1 (λ l k. omega (arith, ((alike_decides r (product_row c col)).0 e).cubes l k)))))
-      (λ e. e) (cases_Bool (alike r (product_row c col)))

@@ -1,6 +1,6 @@
 -- The rows of a table.
 use Rattle.std.proofs.Common.{◌≡◌, ℕ, zero, suc, ◌<◌, ◌≤◌, List, [], ◌∷◌, map, length, get_or, sym, ap, ◌∙◌, ⊎_elim, arith}
-use Rattle.std.proofs.lemmas.List.{get_or-map, get_or_past, length-map, length-take}
+use Rattle.std.proofs.lemmas.List.{get_or-map, get_or_past, length-map}
 use Rattle.std.proofs.lemmas.Bool.{cases_lt}
 use Rattle.algebra.specs.Rows.{Distinct, row_in}
 use Rattle.algebra.specs.Rows.{Row as Term}
@@ -11,15 +11,13 @@ use Rattle.cubes.specs.Expressions.{rows_of}
 use Rattle.cubes.specs.Rows.{Apart, as_row, as_rows, no_row}
 use Rattle.table.specs.declared.table.Table.{Table}
 use Rattle.table.specs.Of.{rows_at, style_of}
+use Rattle.table.proofs.Looks.{few_rows}
 
 -- what holds of the rows of every expression holds of those at any place
 at_place : (P : List Row → Type 0) → P [] → ((x : Expression) → P (rows_of x)) → (xs : List Expression) (e : ℕ) → P (get_or (map rows_of xs) e [])
 at_place P n f [] e = n
 at_place P n f (x ∷ xs) zero = f x
 at_place P n f (x ∷ xs) (suc e) = at_place P n f xs e
-
-few_rows : (t : Table) (e : ℕ) → length (rows_at t e) ≤ 8
-few_rows t e = at_place (λ (xs : List Row). length xs ≤ 8) (omega arith) (λ x. omega (arith, length-take x.len x.rows, x.few)) t.expressions e
 
 distinct_rows : (xs : List Row) → Apart xs → Distinct (as_rows xs)
 distinct_rows xs a =

@@ -1,23 +1,14 @@
 -- Cards: what the choice of a column set sees of a kernel. The name of a column is the first place of a row alike among those named.
-use Rattle.std.specs.Prelude.{◌≡◌, ℕ, suc, ◌*◌, true, cond, List, [], ◌∷◌, map}
+use Rattle.std.specs.Prelude.{◌≡◌, ℕ, suc, ◌*◌, true, cond, List, [], ◌∷◌}
 use Rattle.std.specs.List.{AllByRecursion}
 use Rattle.algebra.specs.Cubes.{Powers}
 use Rattle.algebra.specs.Rows.{Row, degree, divides_test, quotient_row}
 use Rattle.choosing.specs.declared.card.Card.{Card}
 use Rattle.choosing.specs.declared.column.Column.{Column}
 use Rattle.few.specs.Listed.{listed}
-use Rattle.cubes.specs.Powers.{power}
-use Rattle.kernels.specs.declared.kernel.Kernel.{Kernel as Listed}
 use Rattle.rewriting.specs.Choosing.{columns_in}
 use Rattle.rewriting.specs.Styles.{Style}
 use Rattle.rewriting.specs.Taking.{Kernel, found, spot}
-
--- a kernel of a list by its name: its expression and the powers of its co-kernel
-abbrev pub as_kernel : Listed → Kernel
-as_kernel x = record { expression = x.expression; co_kernel = power x.cokernel }
-
-abbrev pub as_kernels : List Listed → List Kernel
-as_kernels xs = map as_kernel xs
 
 -- the column of a row with the place p: the quotient by c
 abbrev pub column_of : List Row → Powers → ℕ → Row → Column

@@ -3,7 +3,7 @@ ghost use Rattle.few.specs.Listed.{listed};
 ghost use Rattle.cubes.specs.Powers.{power};
 ghost use Rattle.cubes.specs.Rows.{as_row};
 ghost use Rattle.table.specs.Of.{style_of};
-ghost use Rattle.dealing.specs.Cards.{as_kernel, as_kernels};
+ghost use Rattle.kernels.specs.Named.{as_kernel, as_kernels};
 ghost use Rattle.dealing.specs.Chosen.{Chooses};
 ghost use Rattle.dealing.specs.Dealing.{AddsCard, AddsColumn, DealtAll, one_or_none};
 ghost use Rattle.dealing.specs.Naming.{named_rows};

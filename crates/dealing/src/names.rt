@@ -7,24 +7,18 @@ use crate::entry::Entry;
 use cubes::Row;
 use std::alloc::{AllocError, Global};
 
-// The signed cubes that have names: the name of one is its place. Cubes are only added behind, so a name stays.
+// The signed cubes that have names: the name of one is its place. Cubes are only added behind, so a name stays. They lie in a Vec
+// that is searched, since a name is the place in the order of naming, which a map by cube does not hold.
 #[derive(Drop)]
 pub(crate) struct Names {
     entries: Vec<Entry>,
 }
 
-// Whether two rows have the same sign and the same powers.
-fn same_row(a: &Row, b: &Row) -> bool
-    ensures { result ≡ alike (as_row a.now) (as_row b.now) }
+// Whether two entries have the same sign and the same powers.
+fn same(a: Entry, b: Entry) -> bool
+    ensures { result ≡ alike (entry_row a) (entry_row b) }
 {
-    a.sign == b.sign && a.cube.same(b.cube)
-}
-
-// The same of two entries, where the degree tells most apart at once.
-fn same(a: &Entry, b: &Entry) -> bool
-    ensures { result ≡ alike (entry_row a.now) (entry_row b.now) }
-{
-    a.degree == b.degree && same_row(&a.row, &b.row)
+    a == b
 }
 
 impl Names {
@@ -44,7 +38,7 @@ impl Names {
         self.entries
             .as_slice()
             .iter()
-            .position(|entry| same(entry, sought))
+            .position(|entry| same(*entry, *sought))
     }
 
     // The name of a signed cube: the place of the first that is alike, where it is added if there is none.
@@ -52,7 +46,7 @@ impl Names {
         ensures { IfOk result (λ n. Naming (named_rows self.old) (as_row row) n (named_rows self.new)) }
     {
         let degree = row.cube.degree();
-        let entry = Entry { row, degree };
+        let entry = Entry { degree, row };
         match self.find(&entry) {
             Some(n) => Ok(n),
             None => {

@@ -1,30 +1,18 @@
 -- The expressions of a table along its making order.
-use Rattle.std.proofs.Common.{◌≡◌, ℕ, zero, suc, ◌+◌, ◌<◌, ◌≤◌, List, [], ◌∷◌, map, length, get_or, take, sym, refl, ap, ◌∙◌, arith}
+use Rattle.std.proofs.Common.{◌≡◌, ℕ, ◌+◌, ◌<◌, ◌≤◌, List, [], ◌∷◌, length, get_or, take, sym, refl, ap, ◌∙◌, arith}
 use Rattle.std.specs.List.{sum_by}
-use Rattle.std.proofs.lemmas.List.{length-take}
 use Rattle.std.proofs.lemmas.List.Sums.{sum_by-cons, sum_by_more_le}
 use Rattle.sheet.specs.declared.operand.Operand.{Operand}
 use Rattle.algebra.specs.Rows.{Row as Term}
 use Rattle.algebra.specs.Sums.{counting, total}
-use Rattle.cubes.specs.declared.expression.Expression.{Expression}
-use Rattle.cubes.proofs.Made.{few_rows as few}
-use Rattle.cubes.specs.Expressions.{rows_of}
 use Rattle.emission.specs.Steps.{emitted}
 use Rattle.emission.proofs.Counting.{emitted_length}
 use Rattle.table.specs.declared.table.Table.{Table}
-use Rattle.table.specs.Of.{order_of, rows_at}
+use Rattle.table.specs.Of.{order_of}
 use Rattle.emitter.specs.Operations.{operations}
 
-few_rows : (xs : List Expression) (e : ℕ) → length (get_or (map rows_of xs) e []) ≤ 8
-few_rows [] e = omega arith
-few_rows (x ∷ xs) zero = few x
-few_rows (x ∷ xs) (suc e) = few_rows xs e
-
-pub rows_few : (t : Table) (e : ℕ) → length (rows_at t e) ≤ 8
-rows_few t e = few_rows t.expressions e
-
 pub order_few : (t : Table) → length (order_of t) ≤ 32
-order_few t = omega (arith, length-take (16 + t.parts) t.order, t.few)
+order_few t = omega (arith, t.places, t.few)
 
 -- the steps along an order are the sum of the operations
 module _ (rows : ℕ → List Term) where

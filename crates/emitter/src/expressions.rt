@@ -32,7 +32,7 @@ impl Draft {
                 sign: row.sign,
                 operand: self.write_product(results, row.cube),
             };
-            let _there_is_room = terms.push(term);
+            terms.push(term).unwrap();
         }
         terms
     }

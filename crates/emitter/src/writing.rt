@@ -21,6 +21,7 @@ impl Draft {
         let mut results = [Operand::Zero; EXPRESSIONS];
         for e in table.order() {
             let made = self.write_expression(&results, table.rows(*e));
+            // a table's order may hold any number, and one past the expressions has no rows and no result
             if *e < EXPRESSIONS {
                 results[*e] = made;
             }

@@ -10,16 +10,13 @@ use Rattle.algebra.proofs.Degrees.{same_refl}
 use Rattle.rewriting.specs.Factor.{Taken, covered, factored, has, part_rows, positive, product_row, rewritten, stand_in, taken_in, without}
 use Rattle.rewriting.specs.Presses.{Like}
 use Rattle.rewriting.specs.Styles.{Style, equal, standing}
-use Rattle.rewriting.specs.Taking.{Kernel, alike, found, has_columns, spot, spots, taken_after, uncovered}
+use Rattle.rewriting.specs.Taking.{Kernel, found, has_columns, spot, spots, taken_after, uncovered}
 use Rattle.factoring.specs.Rewrites.{Crowded, anew, part_row}
 use Rattle.factoring.specs.Takens.{looked}
-use Rattle.factoring.proofs.Products.{alike_from, alike_true, tests_same}
+use Rattle.table.proofs.Alikes.{alike_first}
 
 alike_trans : (r s t : Row) → Alike r s → Alike s t → Alike r t
 alike_trans r s t a b = record { sign = a.sign ∙ b.sign; cubes = λ l h. a.cubes l h ∙ b.cubes l h }
-
-alike_sym : (r s : Row) → Alike r s → Alike s r
-alike_sym r s a = record { sign = sym a.sign; cubes = λ l h. sym (a.cubes l h) }
 
 pub each_refl : (xs : List Row) → AllZip Alike xs xs
 each_refl [] = tt
@@ -35,22 +32,16 @@ each_trans (x ∷ xs) (y ∷ ys) (z ∷ zs) a b = (alike_trans x y z a.0 b.0, ea
 
 -- ---- the kernels taken
 
-alike_right : (x r s : Row) → Alike r s → alike x r ≡ alike x s
-alike_right x r s a =
-    tests_same (alike x r) (alike x s)
-    (λ e. alike_from x s (alike_trans x r s (alike_true x r e) a))
-    (λ e. alike_from x r (alike_trans x s r (alike_true x s e) (alike_sym r s a)))
-
 product_alike : (c : Powers) (r s : Row) → Alike r s → Alike (product_row c r) (product_row c s)
 product_alike c r s a = record { sign = a.sign; cubes = λ l h. ap (λ (n : ℕ). c l + n) (a.cubes l h) }
 
 found_alike : (xs : List Row) (r s : Row) → Alike r s → found xs r ≡ found xs s
 found_alike [] r s a = refl
-found_alike (x ∷ xs) r s a = ap₂ ◌||◌ (alike_right x r s a) (found_alike xs r s a)
+found_alike (x ∷ xs) r s a = ap₂ ◌||◌ (alike_first x r s a) (found_alike xs r s a)
 
 spot_alike : (xs : List Row) (r s : Row) → Alike r s → spot xs r ≡ spot xs s
 spot_alike [] r s a = refl
-spot_alike (x ∷ xs) r s a = ap₂ (λ (b : Bool) (n : ℕ). cond b 0 (suc n)) (alike_right x r s a) (spot_alike xs r s a)
+spot_alike (x ∷ xs) r s a = ap₂ (λ (b : Bool) (n : ℕ). cond b 0 (suc n)) (alike_first x r s a) (spot_alike xs r s a)
 
 module _ (rows : List Row) (c : Powers) where
   has_alike : (xs ys : List Row) → AllZip Alike xs ys → has_columns rows c xs ≡ has_columns rows c ys

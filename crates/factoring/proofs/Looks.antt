@@ -10,7 +10,8 @@ use Rattle.rewriting.specs.Taking.{Kernel as Named, found, has_columns, spot, sp
 use Rattle.cubes.specs.Powers.{power}
 use Rattle.cubes.specs.Rows.{as_row, as_rows, no_row}
 use Rattle.cubes.specs.declared.row.Row.{Row}
-use Rattle.factoring.specs.Takens.{all_open, as_kernel, as_kernels, as_taken, as_takens, looked, open_at}
+use Rattle.kernels.specs.Named.{as_kernel, as_kernels}
+use Rattle.factoring.specs.Takens.{all_open, as_taken, as_takens, looked, open_at}
 use Rattle.few.specs.declared.few.Few.{Few}
 use Rattle.few.specs.Listed.{listed}
 use Rattle.factoring.specs.declared.taken.TakenKernel.{TakenKernel}

@@ -1,8 +1,8 @@
 -- The table with one part more.
-use Rattle.std.proofs.Common.{◌≡◌, ℕ, zero, suc, ◌+◌, ◌<◌, ◌≤◌, Bool, ◌≢◌, ◌⊎◌, List, [], ◌∷◌, map, length, get_or, set, Some, None, Option, sym, ap, ◌∙◌, subst, inl, inr, arith, below_more}
+use Rattle.std.proofs.Common.{◌≡◌, ℕ, ◌+◌, ◌<◌, Bool, ◌≢◌, ◌⊎◌, List, [], map, length, get_or, set, Some, None, Option, sym, ap, ◌∙◌, subst, inl, inr, arith, below_more}
 use Rattle.std.specs.List.{AllZip}
 use Rattle.std.proofs.lemmas.List.Elements.{length_all_zip}
-use Rattle.std.proofs.lemmas.List.{get_or-map, get_or-set_other, get_or-set_same, length-map, length-take, map-set}
+use Rattle.std.proofs.lemmas.List.{get_or-map, get_or-set_other, get_or-set_same, length-map, map-set}
 use Rattle.std.proofs.lemmas.Bool.{cases_eq}
 use Rattle.algebra.specs.Counts.{all_negative}
 use Rattle.algebra.specs.Cubes.{Powers, Same, letter, unit}
@@ -28,7 +28,7 @@ use Rattle.table.specs.Of.{order_of, rows_at, standing_in, style_of}
 use Rattle.table.specs.declared.table.Table.{Table}
 use Rattle.factoring.specs.Factoring.{Factors, TakesOut, Unfactored, Untaken, crowded, no_part, set_in, taken_for, too_high}
 use Rattle.factoring.specs.Rewrites.{AllAnew, Crowded, OneUnmade, Overflows, anew}
-use Rattle.factoring.specs.Takens.{as_kernel, as_kernels}
+use Rattle.kernels.specs.Named.{as_kernel, as_kernels}
 use Rattle.factoring.specs.declared.factored.Factored.{Factored}
 use Rattle.factoring.proofs.Likes.{anew_alike, crowded_alike, each_refl, each_trans, factored_alike, like_alike, taken_alike}
 use Rattle.factoring.proofs.Rests as rests
@@ -112,14 +112,6 @@ part_unmade t columns taken rows why q u =
     (rests.crowded (as_rows rows) rows (each_refl (as_rows rows)) why u))
 
 -- ---- by the list of kernels
-
-pub few_rows : (t : Table) (e : ℕ) → length (rows_at t e) ≤ 8
-few_rows t e = go t.expressions e
-  where
-    go : (es : List Expression) (k : ℕ) → length (get_or (map rows_of es) k []) ≤ 8
-    go [] k = omega arith
-    go (x ∷ es) zero = omega (arith, length-take x.len x.rows, x.few)
-    go (x ∷ es) (suc k) = go es k
 
 module _ (t : Table) (kernels : List Kernel) (p n : ℕ) (h : p < length kernels) where
   set_alike_at : (columns rows : List Row) → rows ≡ rows_at t (get_or kernels p no_kernel).expression

@@ -10,7 +10,7 @@ use Rattle.rewriting.specs.Presses.{Like}
 use Rattle.table.specs.Of.{order_of, standing_in, style_of}
 use Rattle.table.specs.declared.table.Table.{Table}
 use Rattle.factoring.specs.Rewrites.{Crowded, Overflows}
-use Rattle.factoring.specs.Takens.{as_kernels}
+use Rattle.kernels.specs.Named.{as_kernels}
 use Rattle.factoring.specs.declared.factored.Factored.{Factored}
 
 -- what factor leads to: the rewritten style, with the new part just before the first expression that it was taken from

@@ -1,22 +1,15 @@
--- Kernels and taken kernels, as the rules of rewriting have them.
+-- Taken kernels, as the rules of rewriting have them.
 use Rattle.std.specs.Prelude.{ℕ, Bool, cond, not, ◌&&◌, List, [], ◌∷◌, ◌++◌, map}
 use Rattle.algebra.specs.Cubes.{Powers}
 use Rattle.algebra.specs.Rows.{Row}
 use Rattle.few.specs.Listed.{listed}
-use Rattle.kernels.specs.declared.kernel.Kernel.{Kernel}
 use Rattle.cubes.specs.Powers.{power}
 use Rattle.rewriting.specs.Factor.{Taken, has, product_row}
 use Rattle.rewriting.specs.Styles.{Style}
 use Rattle.rewriting.specs.Taking.{Kernel as Named, found, has_columns, spot, spots, take_of, takes_next, uncovered}
 use Rattle.factoring.specs.declared.taken.TakenKernel.{TakenKernel}
 
--- a kernel by its expression and its co-kernel
-abbrev pub as_kernel : Kernel → Named
-as_kernel x = record { expression = x.expression; co_kernel = power x.cokernel }
-
-abbrev pub as_kernels : List Kernel → List Named
-as_kernels xs = map as_kernel xs
-
+-- a taken kernel, and those of a list
 abbrev pub as_taken : TakenKernel → Taken
 as_taken t = record { expression = t.expression; co_kernel = power t.cokernel; places = listed t.places }
 

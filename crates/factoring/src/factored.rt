@@ -2,6 +2,7 @@ ghost use Rattle.std.specs.Prelude.{IfOk, Some, None};
 ghost use Rattle.cubes.specs.Rows.{as_rows};
 ghost use Rattle.factoring.specs.Factoring.{Factors, TakesOut, Unfactored, Untaken};
 ghost use Rattle.factoring.specs.Takens.{as_takens};
+ghost use Rattle.few.specs.Listed.{listed};
 
 use crate::columns::named_columns;
 use crate::order::first_source;
@@ -9,7 +10,8 @@ use crate::part::{common_sign, rows_of_part};
 use crate::rewritten::rewrite_all;
 use crate::taken::TakenKernel;
 use crate::taking::take_all;
-use cubes::{Cube, Expression, Row};
+use cubes::{Cube, Expression, ROWS, Row};
+use few::Few;
 use kernels::Kernel;
 use std::alloc::{AllocError, Global};
 use table::Table;
@@ -25,24 +27,23 @@ pub struct Factored {
 // The table with the columns as one part more, and the taken kernels replaced.
 fn factor(
     table: &Table,
-    columns: &[Row],
+    columns: &Few<Row, ROWS>,
     taken: &[TakenKernel],
     heap: Global,
 ) -> Result<Option<Table>, AllocError>
-    ensures { IfOk result (λ o. elim o [ Some x ↦ Factors table.now (as_rows columns.now) (as_takens taken.now) x | None ↦ Unfactored table.now (as_rows columns.now) (as_takens taken.now) ]) }
+    ensures { IfOk result (λ o. elim o [ Some x ↦ Factors table.now (as_rows (listed columns.now)) (as_takens taken.now) x | None ↦ Unfactored table.now (as_rows (listed columns.now)) (as_takens taken.now) ]) }
 {
     let Some(letter) = Cube::letter(table.standing()) else {
         return Ok(None);
     };
     let row = Row {
         cube: letter,
-        sign: common_sign(columns),
+        sign: common_sign(columns.as_slice()),
     };
     let Some(anew) = rewrite_all(table, taken, row, heap)? else {
         return Ok(None);
     };
-    let rows = rows_of_part(columns, heap)?;
-    let Ok(part) = Expression::of(rows.as_slice()) else {
+    let Ok(part) = Expression::of(rows_of_part(columns).as_slice()) else {
         return Ok(None);
     };
     let at = first_source(anew.order(), taken).unwrap_or(anew.standing());
@@ -64,9 +65,9 @@ pub fn take_out(
     let Some(kernel) = kernels.get(place) else {
         return Ok(None);
     };
-    let columns = named_columns(table.rows(kernel.expression), kernel.cokernel, set, heap)?;
-    let taken = take_all(table, kernels, columns.as_slice(), heap)?;
-    let Some(next) = factor(table, columns.as_slice(), taken.as_slice(), heap)? else {
+    let columns = named_columns(table.rows(kernel.expression), kernel.cokernel, set);
+    let taken = take_all(table, kernels, &columns, heap)?;
+    let Some(next) = factor(table, &columns, taken.as_slice(), heap)? else {
         return Ok(None);
     };
     Ok(Some(Factored {

@@ -1,10 +1,11 @@
-ghost use Rattle.std.specs.Prelude.{◌≡◌, map, IfOk};
+ghost use Rattle.std.specs.Prelude.{◌≡◌, map};
 ghost use Rattle.algebra.specs.Counts.{all_negative};
 ghost use Rattle.cubes.specs.Rows.{as_rows, minus};
+ghost use Rattle.few.specs.Listed.{listed};
 ghost use Rattle.rewriting.specs.Factor.{part_rows, positive};
 
-use cubes::{Row, Sign, all_minus};
-use std::alloc::{AllocError, Global};
+use cubes::{ROWS, Row, Sign, all_minus};
+use few::Few;
 
 // The sign of the rows that stand for the columns: negative where all columns are.
 pub(crate) fn common_sign(columns: &[Row]) -> Sign
@@ -18,25 +19,26 @@ pub(crate) fn common_sign(columns: &[Row]) -> Sign
 }
 
 // the rows without their signs
-fn positive_rows(columns: &[Row], heap: Global) -> Result<Vec<Row>, AllocError>
-    ensures { IfOk result (λ v. as_rows v.items ≡ map positive (as_rows columns.now)) }
+fn positive_rows(columns: &Few<Row, ROWS>) -> Few<Row, ROWS>
+    ensures { as_rows (listed result) ≡ map positive (as_rows (listed columns.now)) }
 {
-    let mut rows = Vec::new(heap);
-    for row in columns {
-        rows.push(Row {
+    let mut rows = Few::new();
+    for row in columns.as_slice() {
+        let row = Row {
             cube: row.cube,
             sign: Sign::Plus,
-        })?;
+        };
+        rows.push(row).unwrap();
     }
-    Ok(rows)
+    rows
 }
 
 // The rows of the part: the columns, held positive where all are negative.
-pub(crate) fn rows_of_part(columns: &[Row], heap: Global) -> Result<Vec<Row>, AllocError>
-    ensures { IfOk result (λ v. as_rows v.items ≡ part_rows (as_rows columns.now)) }
+pub(crate) fn rows_of_part(columns: &Few<Row, ROWS>) -> Few<Row, ROWS>
+    ensures { as_rows (listed result) ≡ part_rows (as_rows (listed columns.now)) }
 {
-    match common_sign(columns) {
-        Sign::Minus => positive_rows(columns, heap),
-        Sign::Plus => Vec::from_slice(heap, columns),
+    match common_sign(columns.as_slice()) {
+        Sign::Minus => positive_rows(columns),
+        Sign::Plus => *columns,
     }
 }

@@ -1,10 +1,11 @@
-ghost use Rattle.std.specs.Prelude.{◌≡◌, ◌≤◌, true, false, length, IfOk, Some, None, OnOk};
+ghost use Rattle.std.specs.Prelude.{◌≡◌, true, false, IfOk, Some, None, OnOk};
 ghost use Rattle.cubes.specs.Powers.{power};
 ghost use Rattle.cubes.specs.Rows.{as_row, as_rows};
 ghost use Rattle.rewriting.specs.Factor.{covered, has, product_row, taken_in};
 ghost use Rattle.rewriting.specs.Taking.{alike, found, spot, spots, taken_by};
 ghost use Rattle.table.specs.Of.{style_of};
-ghost use Rattle.factoring.specs.Takens.{all_open, as_kernel, as_kernels, as_takens, looked, open_at};
+ghost use Rattle.kernels.specs.Named.{as_kernel, as_kernels};
+ghost use Rattle.factoring.specs.Takens.{all_open, as_takens, looked, open_at};
 ghost use Rattle.few.specs.Listed.{listed};
 
 use crate::taken::TakenKernel;
@@ -18,13 +19,7 @@ use table::Table;
 fn is_product(row: Row, cokernel: Cube, column: Row) -> bool
     ensures { result ≡ alike (as_row row) (product_row (power cokernel) (as_row column)) }
 {
-    if row.sign != column.sign {
-        return false;
-    }
-    match row.cube.divide(cokernel) {
-        Some(cube) => cube.same(column.cube),
-        None => false,
-    }
+    row.divide(cokernel) == Some(column)
 }
 
 // the place of the first row that is the co-kernel times the column
@@ -58,18 +53,15 @@ fn open_place(rows: &[Row], kernel: Kernel, column: Row, taken: &[TakenKernel]) 
 fn places_behind(
     rows: &[Row],
     kernel: Kernel,
-    columns: &[Row],
+    columns: &Few<Row, ROWS>,
     taken: &[TakenKernel],
 ) -> Option<Few<usize, ROWS>>
-    requires { length columns.now ≤ 8 }
-    ensures { elim result [ Some ps ↦ (all_open (as_rows rows.now) (power kernel.cokernel) (covered (taken_in kernel.expression (as_takens taken.now))) (as_rows columns.now) ≡ true) × (listed ps ≡ spots (as_rows rows.now) (power kernel.cokernel) (as_rows columns.now)) | None ↦ all_open (as_rows rows.now) (power kernel.cokernel) (covered (taken_in kernel.expression (as_takens taken.now))) (as_rows columns.now) ≡ false ] }
+    ensures { elim result [ Some ps ↦ (all_open (as_rows rows.now) (power kernel.cokernel) (covered (taken_in kernel.expression (as_takens taken.now))) (as_rows (listed columns.now)) ≡ true) × (listed ps ≡ spots (as_rows rows.now) (power kernel.cokernel) (as_rows (listed columns.now))) | None ↦ all_open (as_rows rows.now) (power kernel.cokernel) (covered (taken_in kernel.expression (as_takens taken.now))) (as_rows (listed columns.now)) ≡ false ] }
 {
     let mut places = Few::new();
-    for column in columns {
+    for column in columns.as_slice() {
         let k = open_place(rows, kernel, *column, taken)?;
-        let Ok(()) = places.push(k) else {
-            unreachable()
-        };
+        places.push(k).unwrap();
     }
     Some(places)
 }
@@ -77,12 +69,11 @@ fn places_behind(
 // Takes the kernel, if it has every column and none of the rows behind them is covered.
 fn look(
     table: &Table,
-    columns: &[Row],
+    columns: &Few<Row, ROWS>,
     taken: &mut Vec<TakenKernel>,
     kernel: Kernel,
 ) -> Result<(), AllocError>
-    requires { length columns.now ≤ 8 }
-    ensures { OnOk result (as_takens taken.new.items ≡ looked (style_of table.now) (as_rows columns.now) (as_takens taken.old.items) (as_kernel kernel)) }
+    ensures { OnOk result (as_takens taken.new.items ≡ looked (style_of table.now) (as_rows (listed columns.now)) (as_takens taken.old.items) (as_kernel kernel)) }
 {
     let rows = table.rows(kernel.expression);
     if let Some(places) = places_behind(rows, kernel, columns, taken.as_slice()) {
@@ -99,11 +90,10 @@ fn look(
 pub(crate) fn take_all(
     table: &Table,
     kernels: &[Kernel],
-    columns: &[Row],
+    columns: &Few<Row, ROWS>,
     heap: Global,
 ) -> Result<Vec<TakenKernel>, AllocError>
-    requires { length columns.now ≤ 8 }
-    ensures { IfOk result (λ v. as_takens v.items ≡ taken_by (style_of table.now) (as_rows columns.now) (as_kernels kernels.now)) }
+    ensures { IfOk result (λ v. as_takens v.items ≡ taken_by (style_of table.now) (as_rows (listed columns.now)) (as_kernels kernels.now)) }
 {
     let mut taken = Vec::new(heap);
     for kernel in kernels {

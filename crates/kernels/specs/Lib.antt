@@ -3,3 +3,4 @@ pub mod Lists
 pub mod Joins
 pub mod Rests
 pub mod Search
+pub mod Named

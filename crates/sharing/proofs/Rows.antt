@@ -1,5 +1,5 @@
 -- The rows of a table, and how many of them a cube divides.
-use Rattle.std.proofs.Common.{◌≡◌, ℕ, zero, suc, ◌+◌, ◌-◌, ◌*◌, ◌<◌, ◌≤◌, true, false, cond, List, [], ◌∷◌, map, length, get_or, sym, refl, ap, ◌∙◌, inl, inr, ⊎_elim, add-one, arith}
+use Rattle.std.proofs.Common.{◌≡◌, ℕ, ◌+◌, ◌-◌, ◌*◌, ◌<◌, ◌≤◌, true, false, cond, List, [], ◌∷◌, map, length, sym, refl, ap, ◌∙◌, inl, inr, ⊎_elim, add-one, arith}
 use Rattle.std.proofs.lemmas.List.{get_or-map, length-map}
 use Rattle.std.proofs.lemmas.List.Sums.{count_by-le-length, sum_by-cons}
 use Rattle.std.proofs.lemmas.Bool.{both_ways, cases_Bool, cond-false, cond-true}
@@ -8,16 +8,14 @@ use Rattle.algebra.specs.Rows.{Row as Term, degree, divides_test}
 use Rattle.algebra.specs.Sums.{counting, up_to}
 use Rattle.algebra.proofs.Degrees.{degree_same, divides_decides}
 use Rattle.algebra.proofs.Sums.{total_same, up_to_more, up_to_same}
-use Rattle.cubes.proofs.Made.{few_rows as few}
-use Rattle.cubes.specs.Expressions.{rows_of}
 use Rattle.cubes.specs.Powers.{power}
 use Rattle.cubes.specs.Rows.{as_row, as_rows, divided_rows, no_row, powers_at}
-use Rattle.cubes.specs.declared.expression.Expression.{Expression}
 use Rattle.cubes.specs.declared.row.Row.{Row}
 use Rattle.rewriting.specs.Share.{divided, products_saved}
 use Rattle.rewriting.specs.Sharing.{Spot, Stands, cube_of, shared_cube}
 use Rattle.rewriting.specs.Styles.{Style, over, standing}
 use Rattle.table.specs.Of.{rows_at, style_of}
+use Rattle.table.proofs.Looks.{few_rows}
 use Rattle.table.specs.declared.table.Table.{Table}
 
 -- the two ways to count agree
@@ -26,15 +24,6 @@ divided_are c [] = refl
 divided_are c (x ∷ xs) =
     let test : Row → ℕ = λ y. cond (divides_test c (power y.cube)) 1 0 in
     ap (λ (n : ℕ). test x + n) (divided_are c xs) ∙ sym (sum_by-cons test x xs)
-
--- an expression has at most eight rows
-pub few_rows : (t : Table) (e : ℕ) → length (rows_at t e) ≤ 8
-few_rows t e = go t.expressions e
-  where
-    go : (xs : List Expression) (k : ℕ) → length (get_or (map rows_of xs) k []) ≤ 8
-    go [] k = omega arith
-    go (x ∷ xs) zero = few x
-    go (x ∷ xs) (suc k) = go xs k
 
 -- one expression more
 module _ (t : Table) (c : Powers) (e n : ℕ) (xs : List Row) (are : xs ≡ rows_at t e) (here : n ≡ divided_rows c xs) where

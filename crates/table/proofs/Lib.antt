@@ -1,3 +1,4 @@
 pub mod Looks
 pub mod Puts
 pub mod Adds
+pub mod Alikes

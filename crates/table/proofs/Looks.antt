@@ -1,11 +1,12 @@
 -- Expressions read off a table.
-use Rattle.std.proofs.Common.{◌≡◌, ℕ, ◌+◌, ◌<◌, List, [], map, length, get_or, take, set, sym, ap, ◌∙◌, add-one, arith, length-take}
+use Rattle.std.proofs.Common.{◌≡◌, ℕ, zero, suc, ◌+◌, ◌<◌, ◌≤◌, List, [], ◌∷◌, map, length, get_or, take, set, sym, ap, ◌∙◌, add-one, arith, length-take}
 use lib.ListN.{length-map}
 use Rattle.std.proofs.lemmas.List.{get_or-map, get_or-take, get_or-set_other, get_or-set_same, map-set}
 use Rattle.algebra.specs.Sums.{counting, up_to}
 use Rattle.cubes.specs.declared.expression.Expression.{Expression}
 use Rattle.cubes.specs.declared.row.Row.{Row}
 use Rattle.cubes.specs.Expressions.{rows_of}
+use Rattle.cubes.proofs.Made.{few_rows as few}
 use Rattle.table.specs.declared.table.Table.{Table}
 use Rattle.table.specs.Of.{rows_at, standing_in}
 
@@ -32,6 +33,15 @@ rows_set_here es f x h =
 
 pub rows_set_other : (es : List Expression) (f : ℕ) (x : Expression) (k : ℕ) → (k ≡ f → ⊥) → rows_in (set es f x) k ≡ rows_in es k
 rows_set_other es f x k ne = ap (λ (xs : List (List Row)). get_or xs k []) (map-set rows_of es f x) ∙ get_or-set_other (map rows_of es) f k (rows_of x) [] ne
+
+-- an expression has at most eight rows
+pub few_rows : (t : Table) (e : ℕ) → length (rows_at t e) ≤ 8
+few_rows t e = go t.expressions e
+  where
+    go : (xs : List Expression) (k : ℕ) → length (rows_in xs k) ≤ 8
+    go [] k = omega arith
+    go (x ∷ xs) zero = few x
+    go (x ∷ xs) (suc k) = go xs k
 
 -- one number more
 pub up_to_next : (n : ℕ) (f : ℕ → ℕ) → up_to counting (n + 1) f ≡ up_to counting n f + f n

@@ -2,7 +2,8 @@ use Rattle.std.proofs.Common.{List, sym, subst}
 use Rattle.std.proofs.lemmas.Result.{IfOk-weaker}
 use Rattle.choosing.specs.declared.card.Card.{Card}
 use Rattle.table.specs.Of.{style_of}
-use Rattle.dealing.specs.Cards.{Deals, as_kernels}
+use Rattle.kernels.specs.Named.{as_kernels}
+use Rattle.dealing.specs.Cards.{Deals}
 use Rattle.dealing.proofs.Tables.{distinct_terms, few_terms}
 use Rattle.dealing.proofs.Ties.{by_rows}
 use Rattle.dealing.proofs.cards.best_set.Goals as goal

@@ -2,7 +2,8 @@ use Rattle.std.proofs.Common.{List, take, vec_items, sym, subst, subst₂}
 use Rattle.std.proofs.lemmas.List.{map_more, take_all}
 use Rattle.kernels.specs.declared.kernel.Kernel.{Kernel as Listed}
 use Rattle.table.specs.Of.{style_of}
-use Rattle.dealing.specs.Cards.{Deals, as_kernel, as_kernels}
+use Rattle.kernels.specs.Named.{as_kernel, as_kernels}
+use Rattle.dealing.specs.Cards.{Deals}
 use Rattle.dealing.specs.Naming.{named_rows}
 use Rattle.dealing.proofs.Dealts.{deals_more}
 use Rattle.dealing.proofs.cards.deal.Goals as goal

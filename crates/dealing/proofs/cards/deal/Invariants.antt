@@ -1,6 +1,7 @@
 use Rattle.std.proofs.Common.{take, vec_items}
 use Rattle.table.specs.Of.{style_of}
-use Rattle.dealing.specs.Cards.{Deals, as_kernels}
+use Rattle.kernels.specs.Named.{as_kernels}
+use Rattle.dealing.specs.Cards.{Deals}
 use Rattle.dealing.specs.Naming.{named_rows}
 use Rattle.dealing.proofs.cards.deal.Given as goal
 

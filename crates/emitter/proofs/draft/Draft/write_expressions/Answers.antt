@@ -9,7 +9,8 @@ use Rattle.emission.proofs.Makings.{resulting_length}
 use Rattle.emitter.specs.Operations.{operations}
 use Rattle.emitter.proofs.Writes.{appended_same, appended_then, room_left}
 use Rattle.emitter.proofs.Pushes.{emitted_push, resulting_push}
-use Rattle.emitter.proofs.Tables.{emitted_room, rows_few}
+use Rattle.table.proofs.Looks.{few_rows}
+use Rattle.emitter.proofs.Tables.{emitted_room}
 use Rattle.emitter.proofs.draft.Draft.write_expressions.Goals as goal
 use Rattle.emitter.proofs.draft.Draft.write_expressions.Goals.{then-e-lt-EXPRESSIONS, else-e-lt-EXPRESSIONS}
 
@@ -17,7 +18,7 @@ pub write_expression-made-requires-clause-eight : goal.write_expression-made-req
 write_expression-made-requires-clause-eight c =
     let t = c.args.table.now in
     let number = ap (λ (es : List ℕ). get_or es c.loop-e.e-index 0) c.loop-e.invariant.order in
-    omega (arith, ap length (c.rows.ensures ∙ ap (rows_at t) number), rows_few t (get_or (order_of t) c.loop-e.e-index 0))
+    omega (arith, ap length (c.rows.ensures ∙ ap (rows_at t) number), few_rows t (get_or (order_of t) c.loop-e.e-index 0))
 
 pub write_expression-made-requires-clause-room : goal.write_expression-made-requires-clause-room
 write_expression-made-requires-clause-room c =

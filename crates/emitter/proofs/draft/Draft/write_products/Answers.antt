@@ -1,8 +1,7 @@
-use Rattle.std.proofs.Common.{◌≡◌, ℕ, ◌<◌, List, [], ◌∷◌, ◌++◌, length, get_or, take, Ok, Err, Result, sym, ap, ◌∙◌, arith}
+use Rattle.std.proofs.Common.{ℕ, ◌<◌, List, [], ◌∷◌, ◌++◌, length, get_or, take, sym, ap, ◌∙◌, arith, rules, tests}
 use Rattle.std.proofs.lemmas.List.{length-map, length-take-le, map_more, map_push}
 use Rattle.sheet.specs.declared.operand.Operand.{Operand}
 use Rattle.cubes.specs.Rows.{as_row, as_rows, no_row}
-use Rattle.few.specs.declared.few.Few.{Few}
 use Rattle.few.specs.Listed.{listed}
 use Rattle.emission.specs.Steps.{Signed, chain_end, chain_steps, products, row_chain, summands}
 use Rattle.emission.proofs.Counting.{products_length, summands_length}
@@ -12,20 +11,20 @@ use Rattle.emitter.proofs.Writes.{appended_same, appended_then, room_left}
 use Rattle.emitter.proofs.Pushes.{products_push, summands_push, row_room}
 use Rattle.emitter.proofs.draft.Draft.write_products.Goals as goal
 
--- where there are fewer than eight terms, one more is put behind them
-abbrev Pushes : Few Summand 8 → Few Summand 8 → Summand → Result Unit Summand → Type 0
-Pushes old new t r = elim r [ Ok _ ↦ listed new ≡ listed old ++ t ∷ [] | Err x ↦ (x ≡ t) × (length (listed old) ≡ 8) × (new ≡ old) ]
-
-pushed : (old new : Few Summand 8) (t : Summand) (r : Result Unit Summand) → Pushes old new t r → length (listed old) < 8 → listed new ≡ listed old ++ t ∷ []
-pushed old new t (Ok _) e h = e
-pushed old new t (Err x) e h = absurd (omega (arith, e.1))
-
 pub write_product-requires : goal.write_product-requires
 write_product-requires c =
     let rows = c.args.rows.now in
     let i = c.loop-row.row-index in
     let len = products_length c.args.results.now c.args.self.now.next (as_rows (take i rows)) in
     room_left _ _ c.loop-row.invariant.steps c.requires.room (omega (arith, len, row_room rows i no_row c.loop-row-test.true))
+
+pub unwrap-requires : goal.unwrap-requires
+unwrap-requires c =
+    let done = as_rows (take c.loop-row.row-index c.args.rows.now) in
+    let i = c.loop-row.row-index in
+    let rows = c.args.rows.now in
+    let few : length (listed c.loop-row.terms) < 8 = omega (arith, sym (length-map (listed c.loop-row.terms) signed_one), ap length c.loop-row.invariant.terms, summands_length c.args.results.now c.args.self.now.next done, length-map (take i rows) as_row, length-take-le i rows c.loop-row.auto.row-index-end, c.loop-row-test.true, c.requires.eight) in
+    search (rules, tests, few)
 
 pub loop-row-preserved : goal.loop-row-preserved
 loop-row-preserved c =
@@ -42,13 +41,10 @@ loop-row-preserved c =
     let before = products results at done in
     let next = c.loop-row.invariant.steps.next in
     let more = map_more as_row rows i no_row c.loop-row-test.true in
-    let few : length (listed c.loop-row.terms) ≡ i =
-    sym (length-map (listed c.loop-row.terms) signed_one) ∙ ap length c.loop-row.invariant.terms ∙ summands_length results at done
-    ∙ length-map (take i rows) as_row ∙ length-take-le i rows c.loop-row.auto.row-index-end in
     record {
       steps = appended_same (appended_then c.loop-row.invariant.steps made.steps)
           (ap (λ (m : ℕ). before ++ chain_steps m k) next ∙ sym (products_push results at done r) ∙ ap (products results at) (sym more));
-      terms = ap signed (pushed c.loop-row.terms c.push-there_is_room.new.self term c.push-there_is_room.result c.push-there_is_room.ensures (omega arith))
+      terms = ap signed (search (rules, tests, c.push.ensures, c.unwrap.ensures))
           ∙ map_push signed_one (listed c.loop-row.terms) term
           ∙ ap (λ (ts : List Signed). ts ++ signed_one term ∷ []) c.loop-row.invariant.terms
           ∙ ap (λ (o : Operand). summands results at done ++ (r.negative, o) ∷ []) (made.end ∙ ap (λ (m : ℕ). chain_end m k) next)
