@@ -4,9 +4,6 @@ use Rattle.std.proofs.lemmas.Bool.{both_ways, cases_Bool, eq-eqb, not-false, not
 use Rattle.std.proofs.lemmas.List.{length_push}
 use Rattle.rewriting.specs.Book.{holds, place, with_numeral}
 use Rattle.rewriting.proofs.Books.{place_holds}
-use Rattle.sheet.specs.declared.numerals.Numerals.{Numerals}
-use Rattle.sheet.specs.Numerals.{numerals_list}
-use Rattle.sheet.proofs.Rules.{length_numerals}
 use Rattle.opening.specs.Room.{is_new}
 
 -- a number that is not held has its place behind all
@@ -37,7 +34,3 @@ length_old ns m h = ap (λ (b : Bool). length (cond b ns (ns ++ m ∷ []))) (not
 
 pub place_within : (ns : List ℕ) (m : ℕ) → place ns m ≤ length ns
 place_within ns m = ⊎_elim (λ h. omega (arith, (place_holds ns m h).0)) (λ h. omega (arith, place_free ns m h)) (cases_Bool (holds ns m))
-
--- a style has eight numerals at most
-pub few_held : (xs : Numerals) → length (numerals_list xs) ≤ 8
-few_held xs = omega (arith, length_numerals xs, xs.few)

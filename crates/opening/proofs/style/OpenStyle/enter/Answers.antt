@@ -6,7 +6,8 @@ use Rattle.rewriting.specs.Book.{accepted, place}
 use Rattle.sheet.specs.Numerals.{numerals_list}
 use Rattle.opening.specs.Checks.{AlwaysRefused, Passes}
 use Rattle.opening.specs.Holding.{term_of}
-use Rattle.opening.proofs.Numerals.{few_held, place_within}
+use Rattle.sheet.proofs.Rules.{few_numerals}
+use Rattle.opening.proofs.Numerals.{place_within}
 use Rattle.opening.proofs.Outcomes.{lacking, noted_next, refused, taken}
 use Rattle.opening.proofs.style.OpenStyle.enter.Goals as goal
 
@@ -23,7 +24,7 @@ cube_of-cube-requires c =
     let held = c.args.self.now.table.numerals in
     let m = c.in_ok-magnitude.magnitude in
     let at : c.place_of-place.result ≡ place (numerals_list held) m = cc in
-    omega (arith, at, place_within (numerals_list held) m, few_held held)
+    omega (arith, at, place_within (numerals_list held) m, few_numerals held)
 
 pub returns-in_err-check_room : goal.returns-in_err-check_room
 returns-in_err-check_room c =
