@@ -31,7 +31,7 @@ use Rattle.rules.specs.Settling.{LeavesNothing}
 use Rattle.rules.proofs.Courses.{CoursesOnward, course_left, course_onward, presses_then, stays}
 use Rattle.rules.proofs.Follows.{factor_onward, share_onward}
 use Rattle.playing.specs.declared.outcome.Outcome.{Outcome}
-use Rattle.playing.specs.declared.outcome.Outcome.TheVariants.{Settle as SettleOut, Emit as EmitOut}
+use Rattle.playing.specs.declared.outcome.Outcome.TheVariants.{Kernels as KernelsOut, Factor as FactorOut, Share as ShareOut, Settle as SettleOut, Emit as EmitOut}
 use Rattle.playing.specs.declared.press.Press.{Press}
 use Rattle.playing.specs.declared.press.Press.TheVariants.{Settle, Share}
 use Rattle.playing.specs.Rules.{Rule, by_emit, by_factor, by_kernels, by_refusal, by_settle, by_share}
@@ -110,6 +110,22 @@ module _ {S R : Type 0} (c : CommRing S) (meaning : R → S) (measures : List R)
         }
 
   -- what an emitted sheet's rule says
+  abbrev emitted_sheet : Sheet → Outcome R → Sheet
+  emitted_sheet d (KernelsOut l a) = d
+  emitted_sheet d (FactorOut l a) = d
+  emitted_sheet d (ShareOut a) = d
+  emitted_sheet d (SettleOut l a) = d
+  emitted_sheet d (EmitOut (Ok x)) = x.0
+  emitted_sheet d (EmitOut (Err e)) = d
+
+  abbrev emitted_values : Vec R Global → Outcome R → Vec R Global
+  emitted_values d (KernelsOut l a) = d
+  emitted_values d (FactorOut l a) = d
+  emitted_values d (ShareOut a) = d
+  emitted_values d (SettleOut l a) = d
+  emitted_values d (EmitOut (Ok x)) = x.1
+  emitted_values d (EmitOut (Err e)) = d
+
   emit_rule : {P : Type 0} {p : Press} {o : Outcome R} {t t' : Table} (sheet : Sheet) (values : Vec R Global) → Rule c meaning measures p o t t' → o ≡ EmitOut (Ok (sheet, values))
       → ((buffer : List Step) → EmitMade t buffer sheet → Worth c meaning sheet measures (vec_items values) → P) → P
   emit_rule sheet values (by_kernels l e h) q f = absurd (cc)
@@ -117,8 +133,8 @@ module _ {S R : Type 0} (c : CommRing S) (meaning : R → S) (measures : List R)
   emit_rule sheet values (by_share h) q f = absurd (cc)
   emit_rule sheet values (by_settle l e h) q f = absurd (cc)
   emit_rule sheet values (by_emit {t} {sheet = s₁} {values = v₁} buffer e h v) q f =
-      let a : s₁ ≡ sheet = cc in
-      let b : v₁ ≡ values = cc in
+      let a : s₁ ≡ sheet = ap (emitted_sheet sheet) q in
+      let b : v₁ ≡ values = ap (emitted_values values) q in
       f buffer (subst (EmitMade t buffer) a h) (subst₂ (λ (x : Sheet) (y : Vec R Global). Worth c meaning x measures (vec_items y)) a b v)
   emit_rule sheet values (by_refusal h) q f = absurd (cc)
 

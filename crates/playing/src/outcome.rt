@@ -1,6 +1,7 @@
 use kernels::{Kernel, KernelRefusal};
 use rules::{
-    EmitRefusal, FactorAnswer, FactorRefusal, SettleAnswer, SettleRefusal, ShareAnswer, ShareRefusal,
+    EmitRefusal, FactorAnswer, FactorRefusal, SettleAnswer, SettleRefusal, ShareAnswer,
+    ShareRefusal,
 };
 use sheet::Sheet;
 
