@@ -1,7 +1,7 @@
--- What is read means what stands there, and one cell more keeps the law.
-use Rattle.std.proofs.Common.{◌≡◌, ℕ, ◌+◌, ◌<◌, ◌≤◌, eqb, ◌≢◌, List, map, length, get_or, set, Ok, sym, ap, ◌∙◌, subst, ⊎_elim, arith}
+-- One cell more keeps the law.
+use Rattle.std.proofs.Common.{◌≡◌, ℕ, ◌+◌, ◌<◌, ◌≤◌, eqb, ◌≢◌, List, length, get_or, set, Ok, sym, ap, ◌∙◌, subst, ⊎_elim, arith}
 use Rattle.std.proofs.lemmas.Bool.{cases_lt, cases_Bool, eqb-true, cond-false}
-use Rattle.std.proofs.lemmas.List.{get_or-map, get_or-set_same, get_or-set_other, get_or_default, get_or_past, length-map}
+use Rattle.std.proofs.lemmas.List.{get_or-set_same, get_or-set_other, get_or_default}
 use Rattle.ring.specs.Ring.{CommRing}
 use Rattle.sheet.specs.declared.operand.Operand.{Operand}
 use Rattle.sheet.specs.declared.step.Step.{Step}
@@ -9,14 +9,6 @@ use Rattle.sheet.specs.Legal.{LegalSteps}
 use Rattle.sheet.specs.Values.{operand_value, step_value, StepValues, OutputValues}
 use Rattle.runner.specs.Runs.{run_answer}
 use Rattle.sheet.proofs.Determined.{step_agree}
-
--- what a value means that stands at a place, or that stands for one that is not there
-pub meant_at : {R S : Type 0} (f : R → S) (xs : List R) (i : ℕ) (z : R) (e : S) → f z ≡ e → f (get_or xs i z) ≡ get_or (map f xs) i e
-meant_at f xs i z e zero =
-    ⊎_elim
-    (λ l. sym (get_or-map f xs i z e l))
-    (λ l. ap f (get_or_past xs i z l) ∙ zero ∙ sym (get_or_past (map f xs) i e (subst (λ (n : ℕ). n ≤ i) (sym (length-map xs f)) l)))
-    (cases_lt i (length xs))
 
 -- a run that is not refused has eight measures
 pub ran_eight : (measures steps cells places : ℕ) (u : Unit {0}) → Ok u ≡ run_answer measures steps cells places → measures ≡ 8

@@ -1,13 +1,8 @@
 use Rattle.std.proofs.Common.{lit<}
 use Rattle.std.proofs.lemmas.Str.Pattern.{strip_prefix_char}
 use Rattle.std.proofs.lemmas.Option.{MatchOption-at_some, MatchOption-at_none}
-use Rattle.spelling.specs.Spellings.{negated, no_negated, spelled_plain}
+use Rattle.spelling.specs.Spellings.{negated, spelled_plain}
 use Rattle.spelling.proofs.numbers.signed.Goals as goal
-
-pub returns-in_err-decimal-in-Some : goal.returns-in_err-decimal-in-Some
-returns-in_err-decimal-in-Some c =
-    let e = MatchOption-at_some _ _ c.in-Some.digits c.in-Some.is (strip_prefix_char 45 c.args.text.now c.strip_prefix.result c.strip_prefix.ensures.cases (lit< tt)) in
-    rw c.from_residual.ensures (no_negated c.args.modulus e c.in_err-decimal-in-Some.ensures)
 
 pub returns-in_ok-decimal-in-Some : goal.returns-in_ok-decimal-in-Some
 returns-in_ok-decimal-in-Some c =

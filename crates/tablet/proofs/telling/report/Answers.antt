@@ -5,7 +5,7 @@ use Rattle.std.specs.declared.iter.Enumerate.{Enumerate}
 use Rattle.std.specs.declared.iter.Zip.{Zip}
 use Rattle.std.proofs.iter.Yields.{fronts}
 use Rattle.std.proofs.lemmas.Iterator.{YieldsList, zips, YieldsList-from_slice, YieldsList-from_zip}
-use Rattle.std.proofs.lemmas.Iterator.Consumers.{YieldsList-from_enumerate, YieldsList-turn, YieldsList-end}
+use Rattle.std.proofs.lemmas.Iterator.Consumers.{YieldsList-from_enumerate, YieldsList-turn}
 use Rattle.std.proofs.lemmas.List.{get_or-map, get_or_default, length-append}
 use Rattle.std.proofs.lemmas.List.FromFn.{length-enumerate_from, get_or-enumerate_from}
 use Rattle.std.proofs.lemmas.Slice.Zip.{length-zip, get_or-zip}
@@ -13,7 +13,6 @@ use Rattle.sheet.specs.declared.operand.Operand.{Operand}
 use Rattle.sheet.specs.declared.operand.Operand.TheVariants.{Zero}
 use Rattle.sheet.specs.Legal.{is_zero}
 use Rattle.sheet.specs.Parts.{sheet_steps, sheet_outputs}
-use Rattle.sheet.proofs.Rules.{sheet_lawful}
 use Rattle.tablet.specs.Telling.{counts_line, out_line, formula_line}
 use Rattle.tablet.proofs.Texts.{lines_more, lines_to, no_lines}
 use Rattle.tablet.proofs.telling.report.Goals as goal
@@ -64,18 +63,3 @@ loop-f-preserved g c =
     (line_here outputs (map shows values) n f o.now (string_bytes c.loop-f.text) more (shows v.now) at.0 at.1 at.3
     (ap shows at.2 ∙ sym (get_or-map shows values n v.now [] at.4)) c.in_ok-push_formula.ensures))
     (sym (length-append c.loop-f.yielded ((f, (o, v)) ∷ [])))
-
-pub returns : goal.returns
-returns g c =
-    let sheet = c.args.sheet.now in
-    let outputs = sheet_outputs sheet in
-    let values = c.args.values.now in
-    let turns = over c.into_iter-f-iterator.result outputs values (cc) (cc) (cc) in
-    let end = YieldsList-end turns c.loop-f.yielded c.loop-f.f-iterator c.loop-f.yielded_by c.next.result c.next.new.self c.in-None.is c.next.ensures.steps in
-    let sixteen = (sheet_lawful sheet).sixteen in
-    let many = length-enumerate_from 0 (zip outputs values) in
-    let least = length-zip outputs values in
-    let long = c.requires in
-    let last = end.1 in
-    let all : length c.loop-f.yielded ≡ 16 = omega arith in
-    lines_to (counts_line (sheet_steps sheet)) (string_bytes c.loop-f.text) (length c.loop-f.yielded) 16 (formula_line outputs (map g.R.Spelled.shows values)) c.loop-f.invariant all
