@@ -2,7 +2,7 @@
 use Rattle.std.proofs.Common.{◌≡◌, ℕ, ◌+◌, ◌<◌, Bool, ◌≢◌, ◌⊎◌, List, [], map, length, get_or, set, Some, None, Option, sym, ap, ◌∙◌, subst, inl, inr, arith, below_more}
 use Rattle.std.specs.List.{AllZip}
 use Rattle.std.proofs.lemmas.List.Elements.{length_all_zip}
-use Rattle.std.proofs.lemmas.List.{get_or-map, get_or-set_other, get_or-set_same, length-map, map-set}
+use Rattle.std.proofs.lemmas.List.{get_or-map}
 use Rattle.std.proofs.lemmas.Bool.{cases_eq}
 use Rattle.algebra.specs.Counts.{all_negative}
 use Rattle.algebra.specs.Cubes.{Powers, Same, letter, unit}
@@ -26,6 +26,7 @@ use Rattle.few.specs.Listed.{listed}
 use Rattle.table.specs.Adding.{AddsPart}
 use Rattle.table.specs.Of.{order_of, rows_at, standing_in, style_of}
 use Rattle.table.specs.declared.table.Table.{Table}
+use Rattle.table.proofs.Looks.{rows_set_here, rows_set_other}
 use Rattle.factoring.specs.Factoring.{Factors, TakesOut, Unfactored, Untaken, crowded, no_part, set_in, taken_for, too_high}
 use Rattle.factoring.specs.Rewrites.{AllAnew, Crowded, OneUnmade, Overflows, anew}
 use Rattle.kernels.specs.Named.{as_kernel, as_kernels}
@@ -36,20 +37,11 @@ use Rattle.factoring.proofs.Rests as rests
 -- ---- one expression written
 
 module _ (es : List Expression) (i : ℕ) (x : Expression) (h : i < length es) where
-  inside : i < length (map rows_of es)
-  inside = omega (arith, length-map es rows_of)
-
-  pub written_here : get_or (map rows_of (set es i x)) i [] ≡ rows_of x
-  written_here = ap (λ (xs : List (List Row)). get_or xs i []) (map-set rows_of es i x) ∙ get_or-set_same (map rows_of es) i (rows_of x) [] inside
-
-  pub written_other : (k : ℕ) → k ≢ i → get_or (map rows_of (set es i x)) k [] ≡ get_or (map rows_of es) k []
-  written_other k ne = ap (λ (xs : List (List Row)). get_or xs k []) (map-set rows_of es i x) ∙ get_or-set_other (map rows_of es) i k (rows_of x) [] ne
-
   pub written_more : (P : ℕ → List Row → Type 0) → ((k : ℕ) → k < i → P k (get_or (map rows_of es) k [])) → P i (rows_of x) → (k : ℕ) → k < i + 1 → P k (get_or (map rows_of (set es i x)) k [])
   written_more P before here =
       below_more (λ k. P k (get_or (map rows_of (set es i x)) k [])) i
-      (λ k lt. let ne : k ≢ i = omega arith in subst (P k) (sym (written_other k ne)) (before k lt))
-      (subst (P i) (sym written_here) here)
+      (λ k lt. let ne : k ≢ i = omega arith in subst (P k) (sym (rows_set_other es i x k ne)) (before k lt))
+      (subst (P i) (sym (rows_set_here es i x h)) here)
 
 -- ---- all expressions, and the part
 

@@ -5,6 +5,9 @@ ghost use Rattle.few.specs.Listed.{listed};
 use cubes::{Cube, ROWS};
 use few::Few;
 
+// The kernels taken are a plain slice, and a function that asks it for one expression is told the number: a struct of both would be
+// made for each expression anew, and the rows, the part or the place would still come beside it.
+
 // A kernel that is taken: its expression, its co-kernel, and the place of the row behind each column.
 #[derive(Clone, Copy)]
 pub(crate) struct TakenKernel {

@@ -28,7 +28,7 @@ use Rattle.opening.specs.declared.refusal.EnterRefusal.{EnterRefusal}
 use Rattle.opening.specs.declared.refusal.EnterRefusal.TheVariants.{Formula, Coefficient, Powers, Degree, DoubleCube, FullFormula, FullStyle, NinthNumeral}
 use Rattle.opening.proofs.Doubles.{has_holds, holds_has, same_cube}
 use Rattle.opening.proofs.Refusals.{admissible_refusal}
-use Rattle.opening.proofs.Tables.{rows_in}
+use Rattle.table.proofs.Looks.{rows_in}
 use Rattle.opening.proofs.Written.{written_all, written_with}
 
 -- the noted terms are those accepted, t passes the first checks, and `cube` is its cube

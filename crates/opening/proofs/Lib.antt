@@ -6,5 +6,5 @@ pub mod Refusals
 pub mod Written
 pub mod Entries
 pub mod Outcomes
-pub mod Blanks
+pub mod Numbered
 pub mod Closings

@@ -19,9 +19,7 @@ pub(crate) fn add_row(table: &mut Table, formula: usize, row: Row)
 {
     // a copy takes the row: no proof is made of a push into the element where it stands
     let mut expression = table.expressions[formula];
-    let Ok(()) = expression.push(row) else {
-        unreachable()
-    };
+    expression.push(row).unwrap();
     table.expressions[formula] = expression;
 }
 
@@ -31,8 +29,6 @@ pub(crate) fn hold_numeral(table: &mut Table, magnitude: u16)
     ensures { NumeralsSet table.old (with_numeral (numerals_list table.old.numerals) magnitude) table.new }
 {
     if is_new(&table.numerals, magnitude) {
-        let Ok(()) = table.numerals.push(magnitude) else {
-            unreachable()
-        };
+        table.numerals.push(magnitude).unwrap();
     }
 }

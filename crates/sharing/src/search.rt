@@ -11,6 +11,8 @@ use table::Table;
 // The least degree of a cube that is shared.
 const LEAST_DEGREE: usize = 2;
 
+// A place stands in a table or not, so no type of places says that it does: each step of the search asks it.
+
 // What sharing the greatest common cube of two rows saves; nothing unless the first comes before the second and the cube has degree two or more.
 fn weigh(table: &Table, first: Place, second: Place) -> Option<Pair>
     requires first { Stands (style_of table.now) (spot first) }
@@ -62,6 +64,7 @@ fn best_second(table: &Table, first: Place, best: Option<Pair>) -> Option<Pair>
     ensures { KnownSoFar (style_of table.now) (at first.expression (first.row + 1)) (at 0 0) result }
 {
     let mut best = best;
+    // the pairs begin with the first row's own expression, and a place holds the number
     for e in first.expression..table.standing() {
         best = best_second_in(table, first, e, best);
     }
@@ -75,6 +78,7 @@ fn best_first_in(table: &Table, e: usize, best: Option<Pair>) -> Option<Pair>
     ensures { KnownSoFar (style_of table.now) (at (e + 1) 0) (at 0 0) result }
 {
     let mut best = best;
+    // a place is named by its numbers
     for row in 0..table.rows(e).len() {
         best = best_second(table, Place { expression: e, row }, best);
     }
@@ -87,6 +91,7 @@ pub fn best_cube(table: &Table) -> Option<Pair>
     ensures { elim result [ Some x ↦ Best (style_of table.now) x | None ↦ NoPair (style_of table.now) ] }
 {
     let mut best = None;
+    // an expression is named by its number, which the places of its rows hold
     for e in 0..table.standing() {
         best = best_first_in(table, e, best);
     }

@@ -16,7 +16,7 @@ fn first_order() -> Few<usize, EXPRESSIONS>
 {
     let mut order = Few::new();
     for e in 0..FORMULAS {
-        let Ok(()) = order.push(e) else { unreachable() };
+        order.push(e).unwrap();
     }
     order
 }
