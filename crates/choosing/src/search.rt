@@ -50,7 +50,8 @@ pub fn weigh_set(cards: &[Card], kernel: usize, set: usize) -> Option<Choice>
 
 // The better of `best` and the sets of one kernel, `card`.
 //
-// The walks go through the kernels that have two of its columns or more: no other is taken for such a set.
+// The walks go through the kernels that have two of its columns or more: no other is taken for such a set. The kernel's number is wanted
+// for the choice, its card for the columns.
 fn best_of_kernel(
     cards: &[Card],
     kernel: usize,

@@ -9,7 +9,8 @@ use crate::covered::Covered;
 
 // The columns that the binary number `set` names: the first counts 1, the second 2, the third 4.
 //
-// A loop: columns kept in place are put one by one, and cannot be collected.
+// A loop: columns kept in place are put one by one, and cannot be collected. The set is halved, as its definition does; factoring does so
+// with rows that it divides on the way, and knows no columns.
 pub(crate) fn pick(columns: &Columns, set: usize) -> Columns
     ensures { listed result ≡ chosen set (listed columns.now) }
 {
@@ -26,7 +27,7 @@ pub(crate) fn pick(columns: &Columns, set: usize) -> Columns
 
 // The row behind the column of this name.
 //
-// A loop: the choice spends most of its time here, and with `find` and `map` it takes a sixth longer.
+// A loop: the choice spends most of its time here. With `find` and `map` it takes a sixth more instructions (docs/DESIGN-PASS.md).
 pub(crate) fn find(columns: &[Column], name: usize) -> Option<u8>
     ensures { result ≡ row_of name columns.now }
 {

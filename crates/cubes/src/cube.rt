@@ -56,6 +56,8 @@ impl Cube {
     }
 
     // this cube divided by one that divides it
+    // Here and in the product the other cube is read by the letter's number: of what a zip with `iter_mut` wrote nothing is known,
+    // and with `array::from_fn` the proof did not close.
     fn cut(self, other: Cube) -> Cube
         requires { Divides (power other) (power self) }
         ensures is { Same (power result) (quotient (power self) (power other)) }
@@ -68,7 +70,7 @@ impl Cube {
         Cube { powers }
     }
 
-    // this cube divided by the other, if that divides it
+    // this cube divided by the other, if that divides it; the test stays an `if`, since the division asks for what it says
     pub fn divide(self, other: Cube) -> Option<Cube>
         ensures { elim result [ Some x ↦ Divided (power self) (power other) (power x) | None ↦ Misses (power other) (power self) ] }
     {

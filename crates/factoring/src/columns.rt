@@ -10,6 +10,7 @@ use cubes::{Cube, ROWS, Row};
 use few::Few;
 
 // The columns of a kernel of at most eight rows that the binary number `set` names: the first counts 1, the second 2, the third 4.
+// The set is halved, as its definition does; only rows that the co-kernel divides count.
 pub(crate) fn named_columns(rows: &[Row], cokernel: Cube, set: usize) -> Few<Row, ROWS>
     requires { length rows.now ≤ 8 }
     ensures { AllZip Alike (named_by set (quotients (power cokernel) (as_rows rows.now))) (as_rows (listed result)) }

@@ -5,7 +5,7 @@ ghost use Rattle.factoring.specs.Takens.{as_takens};
 
 use crate::taken::TakenKernel;
 
-// whether a kernel is taken from expression e
+// whether a kernel is taken from expression e; sharing has marks for the same, since a cube has no list of what it was taken from
 fn is_source(taken: &[TakenKernel], e: usize) -> bool
     ensures { result ≡ factored_from (as_takens taken.now) e }
 {

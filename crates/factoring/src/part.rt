@@ -18,7 +18,7 @@ pub(crate) fn common_sign(columns: &[Row]) -> Sign
     }
 }
 
-// the rows without their signs
+// the rows without their signs, put one by one: a list kept in place cannot be collected
 fn positive_rows(columns: &Few<Row, ROWS>) -> Few<Row, ROWS>
     ensures { as_rows (listed result) ≡ map positive (as_rows (listed columns.now)) }
 {

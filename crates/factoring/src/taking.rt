@@ -37,7 +37,7 @@ pub(crate) fn is_covered(taken: &[TakenKernel], e: usize, place: usize) -> bool
     taken.iter().any(|t| t.covers(e, place))
 }
 
-// the place of the row behind a column of a kernel, unless it is covered
+// the place of the row behind a column of a kernel, unless it is covered; the contract has a case for each branch
 fn open_place(rows: &[Row], kernel: Kernel, column: Row, taken: &[TakenKernel]) -> Option<usize>
     ensures { elim result [ Some k ↦ (open_at (as_rows rows.now) (power kernel.cokernel) (covered (taken_in kernel.expression (as_takens taken.now))) (as_row column) ≡ true) × (k ≡ spot (as_rows rows.now) (product_row (power kernel.cokernel) (as_row column))) | None ↦ open_at (as_rows rows.now) (power kernel.cokernel) (covered (taken_in kernel.expression (as_takens taken.now))) (as_row column) ≡ false ] }
 {

@@ -13,7 +13,7 @@ pub(crate) struct Rest {
 }
 
 impl Rest {
-    // every row of an expression, at its place
+    // every row of an expression, at its place; the places behind its rows stay empty, so the array is filled by place
     pub(crate) fn whole(e: &Expression) -> Rest
         ensures { Spread (rows_of e.now) result }
     {
@@ -25,6 +25,7 @@ impl Rest {
     }
 
     // the quotient: every row that c divides, divided by c
+    // A new array is filled by place: changing a copy in place took more instructions.
     pub(crate) fn quotient(&self, c: Cube) -> Rest
         ensures { Quotient self.now (power c) result }
     {
@@ -45,7 +46,7 @@ impl Rest {
         self.slots.iter().filter(|slot| slot.is_some()).count() >= 2
     }
 
-    // the greatest cube that divides every row
+    // the greatest cube that divides every row; a `for`, in which the invariant says what the cubes so far have in common
     pub(crate) fn common_cube(&self) -> Cube
         requires { Pair self.now }
         ensures { Greatest self.now (power result) }

@@ -41,7 +41,7 @@ pub(crate) fn cube_of(magnitude: u16, at: usize, powers: &TermPowers) -> Cube
     Cube { powers: all }
 }
 
-// The sign of a coefficient.
+// The sign of a coefficient; many coefficients have one sign, so it is no `From`.
 pub(crate) fn sign_of(coefficient: i64) -> Sign
     ensures { minus result ≡ not (non_neg coefficient) }
 {

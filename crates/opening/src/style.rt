@@ -6,7 +6,7 @@ mod beginning;
 mod closing;
 mod entering;
 
-// A style that takes terms: their rows, and how many there are.
+// A style that takes terms: their rows, and how many there are, so that the eighty-first is refused without counting the rows anew.
 #[derive(Drop)]
 pub struct OpenStyle {
     table: Table,

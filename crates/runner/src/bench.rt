@@ -1,6 +1,7 @@
 ghost use Rattle.std.specs.Prelude.{◌≡◌, ℕ, ◌<◌, ◌≤◌, length, MatchOption, nat_lt, slice_index_or, slice_set};
 
-// Cells for the values of a run, over a lent slice: one container for every ring kind.
+// Cells for the values of a run, over a lent slice: one container for every ring kind. Its methods hand the slice to functions (a rule of
+// the project), so each has one of the same contract. `put` answers whether there is such a cell, as a set's insert answers.
 #[derive(Drop)]
 pub struct Bench<'a, R> {
     cells: &'a mut [R],

@@ -7,7 +7,7 @@ ghost use Rattle.table.specs.Of.{style_of};
 use cubes::{Cube, divided_rows};
 use table::Table;
 
-// How many rows of all expressions that stand a cube divides.
+// How many rows of all expressions that stand a cube divides; by a `for`, whose invariant bounds the sum (eight rows for each).
 pub(crate) fn rows_divided(table: &Table, cube: Cube) -> usize
     ensures is { result ≡ over (divided (power cube)) (style_of table.now) }
     ensures small { result ≤ 8 * 32 }

@@ -16,7 +16,7 @@ fn has_divided(table: &Table, cube: Cube, e: usize) -> bool
     divided_rows(table.rows(e), cube) > 0
 }
 
-// Which expressions have a row that the cube divides.
+// Which expressions have a row that the cube divides, as marks: the table asks for them by the expression's number.
 fn sources_of(table: &Table, cube: Cube) -> [bool; EXPRESSIONS]
     ensures { (e : ℕ) → source result e ≡ shared_from (style_of table.now) (power cube) e }
 {

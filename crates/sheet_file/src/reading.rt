@@ -52,6 +52,7 @@ pub fn read(file: &[u8], mut buffer: Vec<Step>) -> Result<Sheet, ReadRefused>
     ensures answer { elim result [ Ok s ↦ (sheet_bytes s ≡ file.now) × (sheet_behind s ≡ drop (length (sheet_steps s)) buffer.items) | Err e ↦ (e.buffer ≡ buffer) × RefusedAt e.why e.place file.now (vec_len buffer) ] }
     ensures known { (s : MadeSheet) → sheet_bytes s ≡ file.now → length (sheet_steps s) ≤ vec_len buffer → elim result [ Ok t ↦ SameSheet s t | Err _ ↦ ⊥ ] }
 {
+    // by a match, since the buffer goes back with the fault
     let checked = match check(file, buffer.len()) {
         Ok(checked) => checked,
         Err(fault) => return Err(ReadRefused {

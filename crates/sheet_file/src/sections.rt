@@ -31,7 +31,8 @@ pub(crate) fn read_numerals(section: Section) -> Result<Numerals, Fault>
     Ok(numerals)
 }
 
-// The steps are taken off by a slice pattern (a rule of the project); so their numbers are counted by hand.
+// The steps are taken off by a slice pattern (a rule of the project); so their numbers are counted by hand. They are gone through twice,
+// since a file that is refused leaves the buffer as it was: once to check them, once to put them into it.
 
 // Whether the steps of a section are legal; if not, the first that is not.
 pub(crate) fn check_steps(section: Section, layout: Layout) -> Result<(), Fault>

@@ -56,6 +56,7 @@ impl Spelled for Word {
     }
 }
 
+// Like the words' in shape; the two kinds stay two types (crates/ring/src/word.rt).
 impl Spelled for Wheel {
     ghost spells = { λ text w. Signed 97 text w.value };
 

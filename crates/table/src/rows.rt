@@ -13,7 +13,7 @@ impl Table {
         FORMULAS + self.parts
     }
 
-    // The rows of an expression; none where there is no such expression.
+    // The rows of an expression; none where there is no such expression. By an `if`: a lent slice that a closure makes is no plainer.
     pub fn rows(&self, e: usize) -> &[Row]
         ensures { result.now ≡ rows_at self.now e }
     {

@@ -14,7 +14,8 @@ pub const EXPRESSIONS: usize = 32;
 
 // The expressions of a style by number, the formulas first and then the parts, of which the first `parts` stand; the numerals
 // by first entry; and the making order, which names each expression that stands.
-// The expressions lie in an array with a count: a part's place is its number and its letter, and those behind the last have no rows.
+// The expressions lie in an array with a count, in a plain struct (a rule of the project): a part's place is its number and its letter, every
+// number below 32 has an expression, and `parts` is the number that the definition of a style has.
 #[derive(Clone, Copy)]
 pub struct Table {
     pub expressions: [Expression; EXPRESSIONS],

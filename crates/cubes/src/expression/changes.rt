@@ -29,6 +29,7 @@ impl Expression {
             return None;
         }
         let mut rows = self.rows;
+        // a row is changed by itself and put back by its place: `Few` lends no `&mut` to its items
         let mut n = 0;
         for (k, row) in self.rows().iter().enumerate() {
             let mut row = *row;
@@ -52,7 +53,7 @@ fn lacks(rows: &[Row], letter: usize) -> bool
 }
 
 // Divides a row without the letter once by the cube, if that divides it, and multiplies it by the letter; answers whether it did.
-// The row is lent and changed in place, as the project asks, so the answer is only whether it was.
+// It answers a flag, since the row itself is lent and changed in place (a rule of the project).
 fn divide(row: &mut Row, cube: Cube, letter: usize) -> bool
     requires known { letter < letters }
     requires fresh { power row.old.cube letter ≡ 0 }

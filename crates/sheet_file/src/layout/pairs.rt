@@ -30,7 +30,7 @@ impl<'a> Header<'a> {
         u16::from_le_bytes([self.file[p], self.file[p + 1]])
     }
 
-    // How many numerals the first pair gives.
+    // How many numerals the first pair gives. The next function is like it in shape, but not in place, start, width, limit and type.
     fn numerals(&self) -> Option<u8>
         ensures { MatchOption result ((h : ℕ) → NumeralsPair self.now.file.now h → ⊥) (λ h. NumeralsPair self.now.file.now h) }
     {
