@@ -39,7 +39,8 @@ pub(crate) fn find(columns: &[Column], name: usize) -> Option<u8>
     None
 }
 
-// Whether the kernel has the column, and the row behind it is not covered.
+// Whether the kernel has the column, and the row behind it is not covered. (The columns are the kernel's, what is covered is the walk's:
+// a struct of both would be made for each kernel anew.)
 fn is_open(columns: &[Column], name: usize, covered: &Covered) -> bool
     ensures { result ≡ clear (covers covered.now) (row_of name columns.now) }
 {
