@@ -17,6 +17,7 @@ abbrev pub set_at : List Card → ℕ → ℕ → List Column
 set_at xs p s = chosen s (columns_at xs p)
 
 -- s names two columns or more of kernel p
+-- (this and the words below stand over numbered columns; rewriting has them over rows, and dealing proves that they agree)
 pub record Candidate (xs : List Card) (p s : ℕ) : Type 0 where
   pub kernel : p < length xs
   pub number : s < 2 ^ length (columns_at xs p)

@@ -4,7 +4,7 @@ use Rattle.choosing.specs.declared.card.Card.{Card}
 use Rattle.choosing.specs.declared.column.Column.{Column}
 use Rattle.choosing.specs.Taken.{taken, none}
 
--- the multiplications of a row of degree s: s - 1, or none if s is 0
+-- the multiplications of a row of degree s: s - 1, or none if s is 0 (algebra's word, which this crate does not stand on)
 abbrev pub muls : ℕ → ℕ
 muls s = s - 1
 

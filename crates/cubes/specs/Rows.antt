@@ -27,7 +27,7 @@ Apart xs = (j k : ℕ) → j < k → k < length xs → Same (powers_at xs j) (po
 abbrev pub Holds : List Row → Powers → Type 0
 Holds xs a = (k : ℕ) × (k < length xs) × Same (powers_at xs k) a
 
--- how many rows a cube divides
+-- how many rows a cube divides (of structs; rewriting counts rows of the theory, and sharing proves that they agree)
 abbrev pub divided_rows : Powers → List Row → ℕ
 divided_rows a xs = count_by (λ x. divides_test a (power x.cube)) xs
 

@@ -1,4 +1,4 @@
--- Expressions anew, for a part that is given by its powers.
+-- Expressions anew, for a part that is given by its powers; the theory has them for a part that is given by its letter's number.
 use Rattle.std.specs.Prelude.{◌≡◌, ℕ, ◌<◌, ◌≤◌, Bool, ◌⊎◌, List, ◌++◌, map, length}
 use Rattle.std.specs.List.{AllZip, ContainsAt as Has}
 use Rattle.algebra.specs.Cubes.{Powers, product}

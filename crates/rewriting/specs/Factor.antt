@@ -20,7 +20,7 @@ product_row a r = record { negative = r.negative; cube = product a r.cube }
 abbrev pub positive : Row → Row
 positive r = record { negative = false; cube = r.cube }
 
--- whether a number is in a list
+-- whether a number is in a list (of places; that of the book is over numerals, and compares as the program does)
 abbrev pub has : List ℕ → ℕ → Bool
 has [] k = false
 has (x ∷ xs) k = equal k x || has xs k

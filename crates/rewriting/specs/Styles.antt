@@ -23,7 +23,7 @@ pub record Fits {S : Type 0} (c : CommRing S) (measures : ℕ → S) (value : �
   pub counted : (k : ℕ) → k < length s.numerals → value (8 + k) ≡ ones_sum c (slice_index s.numerals k)
   pub made : (k : ℕ) → k < s.parts → value (16 + k) ≡ worth c value (s.expression (16 + k))
 
--- whether two numbers are the same
+-- whether two numbers are the same, by cases, so that the theory's proofs go along it
 abbrev pub equal : ℕ → ℕ → Bool
 equal zero zero = true
 equal zero (suc n) = false

@@ -9,7 +9,7 @@ use Rattle.sheet_file.specs.declared.writing.WriteRefusal.TheVariants.{ShortBuff
 abbrev pub write_refusal_number : WriteRefusal → ℕ
 write_refusal_number ShortBuffer = 17
 
--- `bytes` stand from `at` to `end` in what was `out`; the rest is as it was
+-- `bytes` stand from `at` to `end` in what was `out`; the rest is as it was (the emitter's steps have such a word over drafts)
 pub record Puts (out : List ℕ) (at : ℕ) (bytes : List ℕ) (end : ℕ) (out' : List ℕ) : Type 0 where
   pub place : end ≡ at + length bytes
   pub front : take end out' ≡ take at out ++ bytes
