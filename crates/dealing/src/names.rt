@@ -8,7 +8,7 @@ use cubes::Row;
 use std::alloc::{AllocError, Global};
 
 // The signed cubes that have names: the name of one is its place. Cubes are only added behind, so a name stays. They lie in a Vec
-// that is searched, since a name is the place in the order of naming, which a map by cube does not hold.
+// that is searched: the contracts speak of the list of named rows, which a map would need beside it.
 #[derive(Drop)]
 pub(crate) struct Names {
     entries: Vec<Entry>,

@@ -24,6 +24,7 @@ fn cube(powers: &[(usize, u8)]) -> Cube {
     c
 }
 
+// `plus` and `minus` say the sign by name, so that an expression reads as it is written
 fn plus(powers: &[(usize, u8)]) -> Row {
     Row {
         cube: cube(powers),

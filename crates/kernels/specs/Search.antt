@@ -24,7 +24,8 @@ pub record IsKernel (q : Rest) (d c : Powers) : Type 0 where
 abbrev pub Agrees : ℕ → Powers → Powers → Type 0
 Agrees i d c = (l : ℕ) → l < i → c l ≡ d l
 
--- x is a kernel of d times q, of the expression n: its co-kernel, and the rows that this divides
+-- x is a kernel of d times q, of the expression n: its co-kernel, and the rows that this divides (the like of `Names`, over what is left of
+-- an expression: a reader of the list need not know of that)
 pub record Entry (n : ℕ) (q : Rest) (d : Powers) (i : ℕ) (x : Kernel) : Type 0 where
   pub number : x.expression ≡ n
   pub kernel : IsKernel q d (power x.cokernel)

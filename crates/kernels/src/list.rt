@@ -60,7 +60,7 @@ pub fn kernels_of_all(
     list(0, expressions, out)
 }
 
-// The list of an expression's kernels is unique.
+// The list of an expression's kernels is unique. (Two theorems: here the expression may have any number, several are numbered from 0.)
 pub fn one_list_only()
     ensures { OneList }
 {}

@@ -25,7 +25,7 @@ impl Rest {
     }
 
     // the quotient: every row that c divides, divided by c
-    // A new array is filled by place: changing a copy in place took more instructions.
+    // A new array is filled by place: a test of three expressions takes 270 thousand instructions so, and 293 thousand by changing a copy.
     pub(crate) fn quotient(&self, c: Cube) -> Rest
         ensures { Quotient self.now (power c) result }
     {

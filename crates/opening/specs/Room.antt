@@ -40,7 +40,7 @@ abbrev pub RoomChecked : Result (Unit {0}) EnterRefusal → List Row → CubePow
 RoomChecked (Ok _) rows cube terms ns m = Room rows cube terms ns m
 RoomChecked (Err why) rows cube terms ns m = Lacks why rows cube terms ns m
 
--- formula f gains the row x at its end, and nothing else changes
+-- formula f gains the row x at its end, and nothing else changes (told field by field, here and below, since each change leaves others)
 pub record RowAdded (t : Table) (f : ℕ) (x : Row) (t' : Table) : Type 0 where
   pub numerals : t'.numerals ≡ t.numerals
   pub parts : t'.parts ≡ t.parts

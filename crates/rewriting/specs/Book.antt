@@ -81,7 +81,7 @@ module _ {S : Type 0} (c : CommRing S) (measures : ℕ → S) where
   abbrev pub formula_value : List Term → S
   formula_value ts = total (adding c) term_value ts
 
--- the place of a numeral
+-- the place of a numeral (the like of it over rows is with what takes columns)
 abbrev pub place : List ℕ → ℕ → ℕ
 place [] m = 0
 place (n ∷ ns) m = cond (n == m) 0 (suc (place ns m))

@@ -22,7 +22,7 @@ same_below a b (suc n) = a n == b n && same_below a b n
 abbrev pub alike : Row → Row → Bool
 alike r s = same_sign r.negative s.negative && same_below r.cube s.cube letters
 
--- whether a list has a row, and its first place
+-- whether a list has a row, and its first place (the book's words are over numbers, which are equal or not; rows are alike)
 abbrev pub found : List Row → Row → Bool
 found [] r = false
 found (x ∷ xs) r = alike x r || found xs r

@@ -40,7 +40,7 @@ abbrev pub Lists : Table → List Kernel → List Kernel → Result ℕ KernelRe
 Lists t l l' (Ok n) = Filled (KernelsOf t) l l' n
 Lists t l l' (Err why) = TooMany (KernelsOf t) l l'
 
--- kernels by their names: expression and co-kernel
+-- kernels by their names: expression and co-kernel (as the crate `kernels` says it for the code)
 abbrev pub named : List Kernel → List Name
 named xs = map (λ (x : Kernel). record { expression = x.expression; co_kernel = power x.cokernel }) xs
 

@@ -11,7 +11,7 @@ use Rattle.rewriting.specs.Share.{shared, shared_row}
 use Rattle.table.specs.declared.table.Table.{Table}
 use Rattle.table.specs.Of.{order_of, rows_at, standing_in, style_of}
 
--- the rows of every expression that stands, with the cube shared out; all else is as it was
+-- the rows of every expression that stands, with the cube shared out; all else is as it was (told field by field, since each change leaves others)
 pub record AllShared (c : Powers) (old new : Table) : Type 0 where
   pub rows : (e : ℕ) → e < standing_in old → AllZip Alike (as_rows (rows_at new e)) (map (shared_row (standing_in old) c) (as_rows (rows_at old e)))
   pub numerals : new.numerals ≡ old.numerals

@@ -16,7 +16,8 @@ fn has_divided(table: &Table, cube: Cube, e: usize) -> bool
     divided_rows(table.rows(e), cube) > 0
 }
 
-// Which expressions have a row that the cube divides, as marks: the table asks for them by the expression's number.
+// Which expressions have a row that the cube divides, as marks, so that the table finds the place of the part itself; factoring, whose kernels
+// bear any number, finds the place and hands that on.
 fn sources_of(table: &Table, cube: Cube) -> [bool; EXPRESSIONS]
     ensures { (e : ℕ) → source result e ≡ shared_from (style_of table.now) (power cube) e }
 {
@@ -51,8 +52,8 @@ pub fn share_out(table: &Table, cube: Cube) -> Option<Table>
         cube,
         sign: Sign::Plus,
     };
-    match Expression::of(&[row]) {
-        Ok(part) => next.with_part(part, &sources_of(table, cube)),
-        Err(_) => unreachable(),
-    }
+    let Ok(part) = Expression::of(&[row]) else {
+        unreachable()
+    };
+    next.with_part(part, &sources_of(table, cube))
 }

@@ -10,7 +10,8 @@ use crate::layout::{Layout, read_layout};
 use crate::sections::{check_steps, fill_steps, read_numerals, read_outputs};
 use sheet::{Numerals, Operand, Refusal, Sheet, Step};
 
-// Why a file is refused, at which byte, and the step buffer as it was handed in.
+// Why a file is refused, at which byte, and the step buffer as it was handed in. (Each call's refusal hands back what is its own: a buffer, a
+// place and a buffer, a place alone. So they are types of their own.)
 #[derive(Drop)]
 pub struct ReadRefused {
     pub why: Refusal,

@@ -12,7 +12,8 @@ use crate::layout::Layout;
 use crate::section::Section;
 use sheet::{Numerals, Operand, Refusal, Step};
 
-// The numerals of a section, or the first below 2.
+// The numerals of a section, or the first below 2. (The reader of outputs is like it, but fills an array of sixteen; this fills a list that
+// refuses.)
 pub(crate) fn read_numerals(section: Section) -> Result<Numerals, Fault>
     requires few { length section.bytes.now ≤ 16 }
     requires whole { length section.bytes.now % 2 ≡ 0 }

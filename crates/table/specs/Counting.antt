@@ -13,7 +13,7 @@ pub record CountedOver (t : Table) (c : Counts) : Type 0 where
   pub add : c.additions ≡ over additions (style_of t)
   pub neg : c.negations ≡ over negations (style_of t)
 
--- over the first n expressions
+-- over the first n expressions, for the loop that counts
 pub record CountedBelow (t : Table) (n : ℕ) (c : Counts) : Type 0 where
   pub mul : c.multiplications ≡ up_to counting n (λ e. multiplications ((style_of t).expression e))
   pub add : c.additions ≡ up_to counting n (λ e. additions ((style_of t).expression e))

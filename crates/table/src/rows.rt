@@ -13,7 +13,8 @@ impl Table {
         FORMULAS + self.parts
     }
 
-    // The rows of an expression; none where there is no such expression. By an `if`: a lent slice that a closure makes is no plainer.
+    // The rows of an expression; none where there is no such expression. By an `if`: `map_or` would take the empty list
+    // first and lend the rows out of a closure.
     pub fn rows(&self, e: usize) -> &[Row]
         ensures { result.now ≡ rows_at self.now e }
     {

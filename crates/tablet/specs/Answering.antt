@@ -20,7 +20,7 @@ Answered {S} {R} c meaning spells shows file words (Err (WrongMeasure at)) = Fir
 Answered {S} {R} c meaning spells shows file words (Err (Refused why place)) = (measures : List R) × Spelt spells words measures × Evaluated c meaning shows file measures (Err (Refused why place))
 Answered {S} {R} c meaning spells shows file words (Err (NotRun why)) = (measures : List R) × Spelt spells words measures × Evaluated c meaning shows file measures (Err (NotRun why))
 
--- words modulo 2^32, wheels modulo 97, pairs over words
+-- words modulo 2^32, wheels modulo 97, pairs over words: what each spells and shows is written out, so that a reader sees it here
 abbrev pub ByKind : Kind → List ℕ → List (String Global) → Result (String Global) EvaluationError → Type 0
 ByKind Word = Answered word_ring word_meaning (λ t w. Signed (2 ^ 32) t w.value) (λ w. decimal w.value)
 ByKind Wheel = Answered wheel_ring wheel_meaning (λ t w. Signed 97 t w.value) (λ w. decimal w.value)

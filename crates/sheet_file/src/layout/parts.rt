@@ -8,7 +8,7 @@ use crate::section::Section;
 use sheet::Scope;
 
 // A part of a file is cut out as a slice from its offset to offset plus length: a rule of the project. Each of the three parts asks that the
-// file has the layout's length; a layout that held its file could not be copied into what is read of it.
+// file has the layout's length: the layout is the two numbers alone, by which an entry is decoded without the file.
 fn section(file: &[u8], start: usize, len: usize) -> Section<'_>
     requires { start + len ≤ length file.now }
     ensures bytes { result.bytes.now ≡ between start (start + len) file.now }
