@@ -1,5 +1,5 @@
 -- The expressions of a table along its making order.
-use Rattle.std.proofs.Common.{◌≡◌, ℕ, ◌+◌, ◌<◌, ◌≤◌, List, [], ◌∷◌, length, get_or, take, sym, refl, ap, ◌∙◌, arith}
+use Rattle.std.proofs.Common.{◌≡◌, ℕ, ◌+◌, ◌<◌, ◌≤◌, List, [], ◌∷◌, length, get_or, take, sym, refl, ap, ◌∙◌, arith, length-take}
 use Rattle.std.specs.List.{sum_by}
 use Rattle.std.proofs.lemmas.List.Sums.{sum_by-cons, sum_by_more_le}
 use Rattle.sheet.specs.declared.operand.Operand.{Operand}
@@ -8,11 +8,11 @@ use Rattle.algebra.specs.Sums.{counting, total}
 use Rattle.emission.specs.Steps.{emitted}
 use Rattle.emission.proofs.Counting.{emitted_length}
 use Rattle.table.specs.declared.table.Table.{Table}
-use Rattle.table.specs.Of.{order_of}
+use Rattle.table.specs.Of.{order_of, standing_in}
 use Rattle.emitter.specs.Operations.{operations}
 
 pub order_few : (t : Table) → length (order_of t) ≤ 32
-order_few t = omega (arith, t.places, t.few)
+order_few t = omega (arith, length-take (standing_in t) t.order, t.places)
 
 -- the steps along an order are the sum of the operations
 module _ (rows : ℕ → List Term) where

@@ -1,5 +1,5 @@
 -- The table with one part more.
-use Rattle.std.proofs.Common.{◌≡◌, ℕ, ◌+◌, ◌<◌, Bool, ◌≢◌, ◌⊎◌, List, [], map, length, get_or, set, Some, None, Option, sym, ap, ◌∙◌, subst, inl, inr, arith, below_more}
+use Rattle.std.proofs.Common.{◌≡◌, ℕ, ◌+◌, ◌<◌, Bool, ◌≢◌, ◌⊎◌, List, [], map, length, get_or, set, take, Some, None, Option, sym, ap, ap₂, ◌∙◌, subst, inl, inr, arith, below_more}
 use Rattle.std.specs.List.{AllZip}
 use Rattle.std.proofs.lemmas.List.Elements.{length_all_zip}
 use Rattle.std.proofs.lemmas.List.{get_or-map}
@@ -22,7 +22,6 @@ use Rattle.rewriting.specs.Presses.{Like}
 use Rattle.rewriting.specs.Taking.{Kernel as Named, taken_by}
 use Rattle.rewriting.proofs.Parts.{at_new, at_old}
 use Rattle.sheet.specs.Numerals.{numerals_list}
-use Rattle.few.specs.Listed.{listed}
 use Rattle.table.specs.Adding.{AddsPart}
 use Rattle.table.specs.Of.{order_of, rows_at, standing_in, style_of}
 use Rattle.table.specs.declared.table.Table.{Table}
@@ -61,9 +60,7 @@ module _ (t : Table) (columns : List Term) (taken : List Taken) (negative : Bool
       old k = rewritten (standing_in t) columns (taken_in k taken) (as_rows (rows_at t k))
 
       order : put (factored_from taken) (standing_in next) (order_of next) ≡ put (factored_from taken) (standing_in t) (order_of t)
-      order =
-          ap (λ (n : ℕ). put (factored_from taken) (16 + n) (order_of next)) a.parts
-          ∙ ap (put (factored_from taken) (standing_in t)) (ap listed a.order)
+      order = ap₂ (λ (n : ℕ) (xs : List ℕ). put (factored_from taken) (16 + n) (take (16 + n) xs)) a.parts a.order
 
       here : rows_at new (standing_in t) ≡ rows
       here = ap (λ (n : ℕ). rows_at new (16 + n)) (sym a.parts) ∙ b.part_rows

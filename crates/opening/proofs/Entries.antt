@@ -1,12 +1,11 @@
 -- What the checks by the table say of the book, and the table with one term more.
-use Rattle.std.proofs.Common.{◌≡◌, ℕ, ◌+◌, ◌<◌, Bool, true, false, cond, ltb, leb, List, [], ◌∷◌, ◌++◌, map, length, sym, refl, ap, ◌∙◌, subst, inr, ⊎_elim, arith}
+use Rattle.std.proofs.Common.{◌≡◌, ℕ, ◌+◌, ◌<◌, Bool, true, false, cond, ltb, leb, List, [], ◌∷◌, ◌++◌, map, length, take, sym, refl, ap, ◌∙◌, subst, ap₂, inr, ⊎_elim, arith}
 use Rattle.std.specs.List.{AllZip}
 use Rattle.std.proofs.lemmas.List.Elements.{AllZip-push, length_all_zip}
 use Rattle.std.proofs.lemmas.List.{append-nil, length-map, length_push, map_push}
 use Rattle.std.proofs.lemmas.Bool.{cases_Bool, cases_eq, cond-false, cond-true, le-leb, le-ltb, lt-leb, lt-ltb}
 use Rattle.algebra.specs.Cubes.{Powers as CubePowers, Same}
 use Rattle.algebra.specs.Rows.{Alike, Row as WrittenRow}
-use Rattle.few.specs.Listed.{listed}
 use Rattle.cubes.specs.Powers.{power}
 use Rattle.cubes.specs.Rows.{as_row, as_rows, minus}
 use Rattle.cubes.specs.Rows.{Holds as HoldsCube}
@@ -144,6 +143,6 @@ module _ (offered : List Term) (tab : Table) (terms : ℕ) (h : Holds (accepted 
             subst (λ (xs : List ℕ). AllZip Alike (map (written_row xs) (under e (noted ++ t ∷ []))) (as_rows (rows_at tab₂ e))) (sym numerals_now)
             (subst (λ (es : List Expression). AllZip Alike (map (written_row ns') (under e (noted ++ t ∷ []))) (as_rows (rows_in es e))) (sym held.expressions) (rows_now e l));
       };
-      order = ap listed (held.order ∙ added.order) ∙ h.order;
+      order = ap₂ (λ (n : ℕ) (xs : List ℕ). take (16 + n) xs) (held.parts ∙ added.parts) (held.order ∙ added.order) ∙ h.order;
       count = ap (λ (n : ℕ). n + 1) h.count ∙ sym (length_push noted t);
     }

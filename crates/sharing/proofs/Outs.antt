@@ -7,7 +7,6 @@ use Rattle.std.proofs.lemmas.Bool.{cases_eq, lt-ltb}
 use Rattle.cubes.specs.Expressions.{rows_of}
 use Rattle.algebra.specs.Cubes.{Powers}
 use Rattle.algebra.specs.Rows.{Alike, Row as Term, divides_test}
-use Rattle.few.specs.Listed.{listed}
 use Rattle.cubes.specs.declared.cube.Cube.{Cube}
 use Rattle.cubes.specs.declared.expression.Expression.{Expression}
 use Rattle.cubes.specs.declared.row.Row.{Row}
@@ -71,7 +70,7 @@ module _ (cube : Cube) (t u v : Table) (marks : List Bool) (part : List Row) whe
       rows = λ e l. ⊎_elim (here e) (there e (omega arith)) (cases_eq e (standing_in t));
     };
     order = p.order ∙ put_same (source marks) (shared_from (style_of t) (power cube)) named (standing_in u) (order_of u)
-        ∙ ap₂ (λ (n : ℕ) (xs : List ℕ). put (shared_from (style_of t) (power cube)) (16 + n) xs) a.parts (ap listed a.order);
+        ∙ ap₂ (λ (n : ℕ) (xs : List ℕ). put (shared_from (style_of t) (power cube)) (16 + n) (take (16 + n) xs)) a.parts a.order;
   }
     where
       here : (e : ℕ) → e ≡ standing_in t → AllZip Alike ((shared (style_of t) (power cube)).expression e) (as_rows (rows_at v e))

@@ -1,10 +1,9 @@
 -- The style that a table holds.
-use Rattle.std.specs.Prelude.{ℕ, ◌+◌, List, [], map, slice_index_or}
+use Rattle.std.specs.Prelude.{ℕ, ◌+◌, List, [], map, take, slice_index_or}
 use Rattle.cubes.specs.declared.row.Row.{Row}
 use Rattle.cubes.specs.Expressions.{rows_of}
 use Rattle.cubes.specs.Rows.{as_rows}
 use Rattle.sheet.specs.Numerals.{numerals_list}
-use Rattle.few.specs.Listed.{listed}
 use Rattle.rewriting.specs.Styles.{Style}
 use Rattle.table.specs.declared.table.Table.{Table}
 
@@ -25,4 +24,4 @@ style_of t = record {
 }
 
 abbrev pub order_of : Table → List ℕ
-order_of t = listed t.order
+order_of t = take (standing_in t) t.order

@@ -1,10 +1,10 @@
-ghost use Rattle.std.specs.Prelude.{◌≡◌, ◌<◌, ◌⊎◌, Some, None};
-ghost use Rattle.std.specs.List.{position};
+ghost use Rattle.std.specs.Prelude.{◌≡◌, ◌+◌, ◌<◌, ◌≤◌, ◌⊎◌, length, take, Some, None};
+ghost use Rattle.std.specs.List.{insert, position};
 ghost use Rattle.cubes.specs.Expressions.{rows_of};
 ghost use Rattle.table.specs.Adding.{AddsPart, AddsPartAt, source};
 ghost use Rattle.table.specs.Of.{standing_in};
 
-use crate::table::Table;
+use crate::table::{EXPRESSIONS, PARTS, Table};
 use cubes::Expression;
 
 // whether expression e is marked
@@ -21,6 +21,18 @@ fn first_source(order: &[usize], sources: &[bool]) -> Option<usize>
     order.iter().position(|e| is_source(sources, *e))
 }
 
+// The order of the first `number` expressions with this number at a place, before those that stood there and behind.
+fn put_at(order: [usize; EXPRESSIONS], number: usize, at: usize) -> [usize; EXPRESSIONS]
+    requires { (at ≤ number) × (number < 32) × (length order ≡ 32) }
+    ensures long { length result ≡ 32 }
+    ensures put { take (number + 1) result ≡ insert (take number order) at number }
+{
+    let mut order = order;
+    order[number] = number;
+    order[at..=number].rotate_right(1);
+    order
+}
+
 impl Table {
     // The table with one part more, at a place of the making order, before those that stood there and behind; none where
     // sixteen parts stand, or the order has no such place.
@@ -28,10 +40,10 @@ impl Table {
         ensures { elim result [ Some t ↦ AddsPartAt at (rows_of part) self.now t | None ↦ (self.now.parts ≡ 16) ⊎ (standing_in self.now < at) ] }
     {
         let number = self.standing();
-        let mut order = self.order;
-        let Ok(()) = order.insert(at, number) else {
+        if self.parts == PARTS || at > number {
             return None;
-        };
+        }
+        let order = put_at(self.order, number, at);
         let mut expressions = self.expressions;
         expressions[number] = part;
         Some(Table {

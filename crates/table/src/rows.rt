@@ -29,6 +29,6 @@ impl Table {
     pub fn order(&self) -> &[usize]
         ensures { result.now ≡ order_of self.now }
     {
-        self.order.as_slice()
+        &self.order[..self.standing()]
     }
 }

@@ -1,22 +1,21 @@
-ghost use Rattle.std.specs.Prelude.{◌≡◌, []};
-ghost use Rattle.few.specs.Listed.{listed};
+ghost use Rattle.std.specs.Prelude.{◌≡◌, [], length, take};
 ghost use Rattle.rewriting.specs.Order.{first_order};
 ghost use Rattle.opening.specs.Holding.{Holds};
 ghost use Rattle.opening.specs.Styles.{HasNoted};
 
 use crate::style::OpenStyle;
 use cubes::Expression;
-use few::Few;
 use sheet::Numerals;
 use table::{EXPRESSIONS, FORMULAS, Table};
 
 // The making order at first: the formulas by number.
-fn first_order() -> Few<usize, EXPRESSIONS>
-    ensures { listed result ≡ first_order }
+fn first_order() -> [usize; EXPRESSIONS]
+    ensures all { length result ≡ 32 }
+    ensures is { take 16 result ≡ first_order }
 {
-    let mut order = Few::new();
+    let mut order = [0; EXPRESSIONS];
     for e in 0..FORMULAS {
-        order.push(e).unwrap();
+        order[e] = e;
     }
     order
 }
