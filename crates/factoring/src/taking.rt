@@ -19,7 +19,7 @@ use table::Table;
 fn is_product(row: Row, cokernel: Cube, column: Row) -> bool
     ensures { result ≡ alike (as_row row) (product_row (power cokernel) (as_row column)) }
 {
-    row.divide(cokernel) == Some(column)
+    row.sign == column.sign && row.divide(cokernel) == Some(column)
 }
 
 // the place of the first row that is the co-kernel times the column

@@ -21,5 +21,5 @@ module _ (row column : Row) (c : Cube) (long : length column.cube.powers ≡ let
       same_rows q column (l q cc) long ∙ sym (alike_second (quotient_row (power c) (as_row row)) (as_row q) (as_row column) h.1)
       ∙ alike_quotient (power c) (as_row row) (as_row column) h.0
 
-pub returns : goal.returns
-returns c = c.eq.ensures ∙ product_is c.args.row c.args.column c.args.cokernel (search rules) c.divide.result (λ q e. search (rules, e)) c.divide.ensures
+pub returns-then-eq : goal.returns-then-eq
+returns-then-eq c = c.eq-then-eq.ensures ∙ product_is c.args.row c.args.column c.args.cokernel (search rules) c.divide.result (λ q e. search (rules, e)) c.divide.ensures
