@@ -23,7 +23,9 @@ fn counts_text(heap: Global, sheet: &Sheet) -> Result<String, AllocError>
 fn push_out<R: Spelled>(text: &mut String, f: usize, value: R) -> Result<(), AllocError>
     ensures { OnOk result (string_bytes text.new ≡ string_bytes text.old ++ out_line f (R.Spelled.shows value)) }
 {
-    writeln!(text, "out {f} {value}")
+    write!(text, "out {f} ")?;
+    value.print(text)?;
+    text.push_str("\n")
 }
 
 // Adds the line of one formula, unless its output is zero's operand.
