@@ -37,6 +37,34 @@ impl fmt::Display for Word {
     }
 }
 
+impl Word {
+    // The steps on the numbers themselves; the calls of the kind say what they mean.
+
+    fn sum(self, other: Word) -> Word
+        ensures { result.value ≡ (self.value + other.value) % 2 ^ 32 }
+    {
+        Word {
+            value: self.value.wrapping_add(other.value),
+        }
+    }
+
+    fn product(self, other: Word) -> Word
+        ensures { result.value ≡ (self.value * other.value) % 2 ^ 32 }
+    {
+        Word {
+            value: self.value.wrapping_mul(other.value),
+        }
+    }
+
+    fn negative(self) -> Word
+        ensures { result.value ≡ (2 ^ 32 - self.value) % 2 ^ 32 }
+    {
+        Word {
+            value: self.value.wrapping_neg(),
+        }
+    }
+}
+
 impl Ring for Word {
     ghost Meaning = { Residue (2 ^ 32) };
 
@@ -59,20 +87,14 @@ impl Ring for Word {
     }
 
     fn add(self, other: Word) -> Word {
-        Word {
-            value: self.value.wrapping_add(other.value),
-        }
+        self.sum(other)
     }
 
     fn multiply(self, other: Word) -> Word {
-        Word {
-            value: self.value.wrapping_mul(other.value),
-        }
+        self.product(other)
     }
 
     fn opposite(self) -> Word {
-        Word {
-            value: self.value.wrapping_neg(),
-        }
+        self.negative()
     }
 }

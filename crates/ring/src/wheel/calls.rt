@@ -32,6 +32,30 @@ impl Wheel {
             value: (n % 97) as u8,
         }
     }
+
+    // The steps on the numbers themselves; the calls of the kind say what they mean.
+
+    fn sum(self, other: Wheel) -> Wheel
+        ensures { result.value ≡ (self.value + other.value) % 97 }
+    {
+        Wheel {
+            value: (self.value + other.value) % 97,
+        }
+    }
+
+    fn product(self, other: Wheel) -> Wheel
+        ensures { result.value ≡ (self.value * other.value) % 97 }
+    {
+        Wheel::of(u32::from(self.value) * u32::from(other.value))
+    }
+
+    fn negative(self) -> Wheel
+        ensures { result.value ≡ (97 - self.value) % 97 }
+    {
+        Wheel {
+            value: (97 - self.value) % 97,
+        }
+    }
 }
 
 impl Ring for Wheel {
@@ -54,18 +78,14 @@ impl Ring for Wheel {
     }
 
     fn add(self, other: Wheel) -> Wheel {
-        Wheel {
-            value: (self.value + other.value) % 97,
-        }
+        self.sum(other)
     }
 
     fn multiply(self, other: Wheel) -> Wheel {
-        Wheel::of(u32::from(self.value) * u32::from(other.value))
+        self.product(other)
     }
 
     fn opposite(self) -> Wheel {
-        Wheel {
-            value: (97 - self.value) % 97,
-        }
+        self.negative()
     }
 }

@@ -1,7 +1,9 @@
+use mathlib.Core.Path.{ap, ◌∙◌}
 use Prim.Native.Nat.{◌^◌}
 use lib.Dec.{lit<}
+use Rattle.ring.specs.Residue.{residue}
 use Rattle.ring.proofs.Residues.{residue_times}
 use Rattle.ring.proofs.word.WordRing.multiply.Goals as goal
 
 pub returns : goal.returns
-returns c = residue_times (2 ^ 32) (lit< tt) c.args.self.value c.args.other.value
+returns c = ap (residue (2 ^ 32) (lit< tt)) c.product.ensures ∙ residue_times (2 ^ 32) (lit< tt) c.args.self.value c.args.other.value
