@@ -42,12 +42,11 @@ impl Sample for Pair<Word> {
 
 // The numbers of the outputs, each times its place from 1 on, added up modulo 2^32.
 fn checksum<R: Sample>(outputs: &[R]) -> u32 {
-    outputs
-        .iter()
-        .zip(1..=u32::MAX)
-        .fold(0u32, |sum, (output, place)| {
-            sum.wrapping_add(place.wrapping_mul(output.number()))
-        })
+    let (sum, _) = outputs.iter().fold((0u32, 1u32), |(sum, place), output| {
+        let sum = sum.wrapping_add(place.wrapping_mul(output.number()));
+        (sum, place.wrapping_add(1))
+    });
+    sum
 }
 
 // One run with another first measure, of the rate 1: the checksum of its outputs.
